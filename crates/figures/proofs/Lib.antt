@@ -1,0 +1,2 @@
+pub mod Accepted
+pub mod Laws

@@ -1,0 +1,75 @@
+-- The bounds that accepted figures keep. The lemmas that give them are `site-in` and `roof-in` of proofs/Accepted.
+use Prim.Native.Nat.{ℕ, suc, _+_, _*_, _≤_, _<_}
+use mathlib.Core.List.{List}
+use Rattle.figures.specs.RoofRules.{spanAt}
+use Rattle.figures.specs.declared.site.Site.{Site}
+use Rattle.figures.specs.declared.roof.Slope.{Slope}
+use Rattle.figures.specs.declared.roof.Span.{Span}
+use Rattle.figures.specs.declared.roof.Shape.{Shape}
+use Rattle.figures.specs.declared.roof.Shape.the-variants.{Monopitch, Pitched, MultiSpan, Cylindrical, Abutting, Projection}
+
+pub record Within (a b x : ℕ) : Type 0 where
+  pub low : a ≤ x
+  pub high : x ≤ b
+
+pub record SiteIn (s : Site) : Type 0 where
+  pub sk : Within 100 25000 (s .sk)
+  pub ce : Within 80 120 (s .ce)
+  pub ct : Within 1 100 (s .ct)
+  pub cesl : Within 100 300 (s .cesl)
+  pub situation : s .situation ≤ 1
+  pub altitude : s .altitude ≤ 1500
+
+pub record SlopeIn (s : Slope) : Type 0 where
+  pub pitch : s .pitch ≤ 800
+  pub width : Within 1 100000 (s .width)
+
+pub record SpanIn (s : Span) : Type 0 where
+  pub left : SlopeIn (s .left)
+  pub right : SlopeIn (s .right)
+
+-- the pitches of a valley's two slopes: neither above 60.0°, and not both 60.0°
+pub record ValleyIn (p q : ℕ) : Type 0 where
+  pub left : p ≤ 600
+  pub right : q ≤ 600
+  pub mean : p + q < 1200
+
+pub record MonopitchIn (s : Slope) (g : ℕ) : Type 0 where
+  pub slope : SlopeIn s
+  pub guard : g ≤ 1
+
+pub record PitchedIn (s t : Slope) (g k : ℕ) : Type 0 where
+  pub left : SlopeIn s
+  pub right : SlopeIn t
+  pub left-guard : g ≤ 1
+  pub right-guard : k ≤ 1
+
+pub record MultiSpanIn (n : ℕ) (l : List Span) : Type 0 where
+  pub count : Within 2 16 n
+  pub spans : (i : ℕ) → i < n → SpanIn (spanAt l i)
+  pub valleys : (i : ℕ) → suc i < n → ValleyIn (spanAt l i .right .pitch) (spanAt l (suc i) .left .pitch)
+
+pub record CylindricalIn (r s : ℕ) : Type 0 where
+  pub rise : Within 1 15000 r
+  pub span : Within 2 30000 s
+  pub half : 2 * r ≤ s
+
+pub record AbuttingIn (b1 b2 h : ℕ) (s : Slope) (g : ℕ) : Type 0 where
+  pub upper : Within 1 100000 b1
+  pub lower : Within 1 100000 b2
+  pub step : Within 1 30000 h
+  pub slope : SlopeIn s
+  pub guard : g ≤ 1
+
+pub record ProjectionIn (h a b : ℕ) : Type 0 where
+  pub height : Within 1 30000 h
+  pub left : Within 1 100000 a
+  pub right : Within 1 100000 b
+
+abbrev pub ShapeIn : Shape → List Span → Type 0
+ShapeIn (Monopitch slope guard) spans = MonopitchIn slope guard
+ShapeIn (Pitched left right leftGuard rightGuard) spans = PitchedIn left right leftGuard rightGuard
+ShapeIn (MultiSpan count) spans = MultiSpanIn count spans
+ShapeIn (Cylindrical rise span) spans = CylindricalIn rise span
+ShapeIn (Abutting b1 b2 h slope guard) spans = AbuttingIn b1 b2 h slope guard
+ShapeIn (Projection h left right) spans = ProjectionIn h left right

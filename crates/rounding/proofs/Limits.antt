@@ -1,0 +1,87 @@
+-- Limits keep order: a limited number or fraction rises with what is limited, and stays within its limits.
+use mathlib.Core.Path.{_≡_, refl}
+use mathlib.Core.Bool.{Bool, true, false, cond}
+use Prim.Native.Nat.{ℕ, _*_, _≤_, _<_, min, max}
+use native.Mathlib.Nat.{le-of-lt, mul-le-mul-right, le-of-mul-le-mul-right}
+use native.Mathlib.Omega.{arith}
+use borrow.Author.Tests.{leb-true, leb-false}
+use lib.Dec.{leb}
+use Rattle.rounding.specs.Fraction.{Fraction, Below}
+use Rattle.rounding.specs.Limit.{smaller, larger, heldTo}
+
+pub min-mono : {a b c d : ℕ} → a ≤ c → b ≤ d → min a b ≤ min c d
+min-mono p q = omega arith
+
+pub max-mono : {a b c d : ℕ} → a ≤ c → b ≤ d → max a b ≤ max c d
+max-mono p q = omega arith
+
+pub held-mono : (low high x y : ℕ) → x ≤ y → heldTo low high x ≤ heldTo low high y
+unfolding heldTo
+held-mono low high x y p = omega arith
+
+pub held-low : (low high x : ℕ) → low ≤ heldTo low high x
+unfolding heldTo
+held-low low high x = omega arith
+
+pub held-high : (low high x : ℕ) → low ≤ high → heldTo low high x ≤ high
+unfolding heldTo
+held-high low high x p = omega arith
+
+pub below-refl : (e : Fraction) → Below e e
+unfolding Below
+below-refl e = omega arith
+
+-- Both are multiplied by the other's denominator, and the middle one is cancelled.
+pub below-trans : (e f g : Fraction) → 0 < f .den → Below e f → Below f g → Below e g
+unfolding Below
+below-trans e f g h p q =
+    let s : e .num * g .den * f .den ≤ g .num * e .den * f .den =
+    omega (arith, mul-le-mul-right (g .den) p, mul-le-mul-right (e .den) q) in
+    le-of-mul-le-mul-right s h
+
+-- The smaller and the larger are each one of the two, so what holds of whichever it is holds of it.
+chosen : (P : Fraction → Type 0) (e f : Fraction) (b : Bool) → (b ≡ true → P e) → (b ≡ false → P f) → P (cond b e f)
+chosen P e f true p q = p refl
+chosen P e f false p q = q refl
+
+module _ (P : Fraction → Type 0) (e f : Fraction) where
+  pub smaller-is : (Below e f → P e) → (Below f e → P f) → P (smaller e f)
+  unfolding smaller Below
+  smaller-is p q = chosen P e f (leb (e .num * f .den) (f .num * e .den)) (λ b. p (leb-true _ _ b)) (λ b. q (le-of-lt (leb-false _ _ b)))
+
+  pub larger-is : (Below e f → P f) → (Below f e → P e) → P (larger e f)
+  unfolding larger Below
+  larger-is p q = chosen P f e (leb (e .num * f .den) (f .num * e .den)) (λ b. p (leb-true _ _ b)) (λ b. q (le-of-lt (leb-false _ _ b)))
+
+module _ (e f : Fraction) where
+  pub smaller-left : Below (smaller e f) e
+  smaller-left = smaller-is (λ s. Below s e) e f (λ p. below-refl e) (λ p. p)
+
+  pub smaller-right : Below (smaller e f) f
+  smaller-right = smaller-is (λ s. Below s f) e f (λ p. p) (λ p. below-refl f)
+
+  pub larger-left : Below e (larger e f)
+  larger-left = larger-is (λ s. Below e s) e f (λ p. p) (λ p. below-refl e)
+
+  pub larger-right : Below f (larger e f)
+  larger-right = larger-is (λ s. Below f s) e f (λ p. below-refl f) (λ p. p)
+
+  pub smaller-positive : 0 < e .den → 0 < f .den → 0 < smaller e f .den
+  smaller-positive he hf = smaller-is (λ s. 0 < s .den) e f (λ p. he) (λ p. hf)
+
+  pub larger-positive : 0 < e .den → 0 < f .den → 0 < larger e f .den
+  larger-positive he hf = larger-is (λ s. 0 < s .den) e f (λ p. hf) (λ p. he)
+
+-- Whichever of the upper pair is the smaller, the smaller of the lower pair is below it; and for the larger the other way round.
+module _ (e f e' f' : Fraction) (p : Below e e') (q : Below f f') where
+  pub smaller-mono : 0 < e .den → 0 < f .den → Below (smaller e f) (smaller e' f')
+  smaller-mono he hf =
+      smaller-is (λ s. Below (smaller e f) s) e' f'
+      (λ t. below-trans (smaller e f) e e' he (smaller-left e f) p)
+      (λ t. below-trans (smaller e f) f f' hf (smaller-right e f) q)
+
+  pub larger-mono : 0 < e' .den → 0 < f' .den → Below (larger e f) (larger e' f')
+  larger-mono he' hf' =
+      larger-is (λ s. Below s (larger e' f')) e f
+      (λ t. below-trans f f' (larger e' f') hf' q (larger-right e' f'))
+      (λ t. below-trans e e' (larger e' f') he' p (larger-left e' f'))

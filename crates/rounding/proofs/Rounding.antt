@@ -1,0 +1,62 @@
+-- What rounding up gives: the least whole number not below the exact value, which keeps the order of what is rounded.
+use mathlib.Core.Path.{_≡_, sym}
+use Prim.Native.Nat.{ℕ, _+_, _-_, _*_, _≤_, _<_}
+use native.Mathlib.Nat.{div-zero, div-mul-le-self, lt-div-mul-add, le-of-mul-le-mul-right, lt-of-mul-lt-mul-right, mul-le-mul-left, mul-le-mul-right}
+use native.Mathlib.Omega.{arith}
+use Rattle.rounding.specs.Fraction.{Fraction, Below, Close}
+use Rattle.rounding.specs.Up.{ceilDiv, roundedUp}
+
+-- These two say all that the laws below need of `ceilDiv`: it reaches the quotient, and is less than 1 above it.
+pub reaches : (n d : ℕ) → 0 < d → n ≤ ceilDiv n d * d
+unfolding ceilDiv
+reaches n d h = omega (arith, lt-div-mul-add {a = n + (d - 1)} {b = d} h)
+
+pub near : (n d : ℕ) → 0 < d → ceilDiv n d * d < n + d
+unfolding ceilDiv
+near n d h = omega (arith, div-mul-le-self (n + (d - 1)) d)
+
+-- No smaller whole number reaches the quotient.
+pub least : (n d k : ℕ) → 0 < d → n ≤ k * d → ceilDiv n d ≤ k
+least n d k h p =
+    let q : ceilDiv n d * d < (k + 1) * d = omega (arith, near n d h) in
+    omega (arith, lt-of-mul-lt-mul-right d q)
+
+pub below-least : (n d k : ℕ) → 0 < d → k * d < n → k < ceilDiv n d
+below-least n d k h p =
+    let q : k * d < ceilDiv n d * d = omega (arith, reaches n d h) in
+    lt-of-mul-lt-mul-right d q
+
+pub unique : (n d r : ℕ) → 0 < d → n ≤ r * d → r * d < n + d → r ≡ ceilDiv n d
+unique n d r h p q =
+    let s : r * d < (ceilDiv n d + 1) * d = omega (arith, reaches n d h) in
+    omega (arith, least n d r h p, lt-of-mul-lt-mul-right d s)
+
+-- Nothing is rounded where the quotient is whole, and 0 is given where there is none.
+pub whole : (n d r : ℕ) → 0 < d → n ≡ r * d → ceilDiv n d ≡ r
+whole n d r h p = sym (unique n d r h (omega arith) (omega arith))
+
+pub by-zero : (n : ℕ) → ceilDiv n 0 ≡ 0
+unfolding ceilDiv
+by-zero n = div-zero (n + (0 - 1))
+
+-- Order is kept: over one denominator, and over any two.
+pub mono : (a b d : ℕ) → 0 < d → a ≤ b → ceilDiv a d ≤ ceilDiv b d
+mono a b d h p = least a d (ceilDiv b d) h (omega (arith, reaches b d h))
+
+pub cross : (n d m e : ℕ) → 0 < d → 0 < e → n * e ≤ m * d → ceilDiv n d ≤ ceilDiv m e
+cross n d m e hd he p =
+    let r : n * e ≤ ceilDiv m e * d * e = omega (arith, mul-le-mul-right d (reaches m e he)) in
+    least n d (ceilDiv m e) hd (le-of-mul-le-mul-right r he)
+
+-- The same of a fraction rounded up to a whole grain.
+pub up-close : (g : ℕ) (f : Fraction) → 0 < f .den → Close g 1 (roundedUp g f) f
+unfolding roundedUp
+up-close g f h = record { low = reaches (g * f .num) (f .den) h; high = omega (arith, near (g * f .num) (f .den) h) }
+
+pub up-least : (g r : ℕ) (f : Fraction) → 0 < f .den → g * f .num ≤ r * f .den → roundedUp g f ≤ r
+unfolding roundedUp
+up-least g r f h p = least (g * f .num) (f .den) r h p
+
+pub up-mono : (g : ℕ) (e f : Fraction) → 0 < e .den → 0 < f .den → Below e f → roundedUp g e ≤ roundedUp g f
+unfolding roundedUp Below
+up-mono g e f he hf p = cross (g * e .num) (e .den) (g * f .num) (f .den) he hf (omega (arith, mul-le-mul-left g p))

@@ -1,0 +1,32 @@
+-- Exact values: fractions of whole numbers, and how they compare with whole numbers and with each other.
+-- An order between two fractions says nothing where a denominator is 0, so whoever makes a fraction shows that its denominator is positive.
+use Prim.Native.Nat.{ℕ, _+_, _*_, _≤_, _<_}
+
+pub record Fraction : Type 0 where
+  pub num : ℕ
+  pub den : ℕ
+
+-- n / d
+abbrev pub over : ℕ → ℕ → Fraction
+over n d = record { num = n; den = d }
+
+-- f ≤ r
+unfoldable pub AtMost : Fraction → ℕ → Type 0
+AtMost f r = f .num ≤ r * f .den
+
+-- r < f + k
+unfoldable pub Under : ℕ → Fraction → ℕ → Type 0
+Under r f k = r * f .den < f .num + k * f .den
+
+-- e ≤ f
+unfoldable pub Below : Fraction → Fraction → Type 0
+Below e f = e .num * f .den ≤ f .num * e .den
+
+-- r counts grains, g to the whole: f ≤ r/g < f + k/g
+pub record Close (g k r : ℕ) (f : Fraction) : Type 0 where
+  pub low : g * f .num ≤ r * f .den
+  pub high : r * f .den < g * f .num + k * f .den
+
+-- e + f
+unfoldable pub sum : Fraction → Fraction → Fraction
+sum e f = over (e .num * f .den + f .num * e .den) (e .den * f .den)
