@@ -1,0 +1,83 @@
+-- The items of a sheet in turn, and what the tests on a pair tell.
+use Prim.Native.Nat.{ℕ, zero, suc, _+_, _-_, _*_, _≤_, _<_}
+use mathlib.Core.Path.{_≡_, sym, _∙_}
+use mathlib.Core.Bool.{Bool, true, false, _&&_}
+use mathlib.Core.List.{List}
+use borrow.Author.Tests.{le-leb, lt-leb, leb-true, eq-eqb, ne-eqb}
+use lib.Dec.{leb}
+use lib.ListN.{length}
+use native.Mathlib.Numerals.{add-one}
+use native.Mathlib.Omega.{arith}
+use Rattle.figures.proofs.Laws.{both, within-in}
+use Rattle.figures.specs.Ranges.{within}
+use Rattle.sheet.specs.Sheet.{Answer, accepted, refused, count, offset, size, earliest, fits, pairNumber, inTurn, pairsVerdict}
+use Rattle.sheet.specs.declared.pairs.Ceiling.{Ceiling}
+
+-- one turn of the walk, by the number of the item in turn; its end
+module _ (number : ℕ → ℕ) (m i n : ℕ) where
+  pub turn-refused : (k : ℕ) → i < n → number i ≡ k → (k ≡ 0 → ⊥) → refused k i ≡ inTurn number m i (n - i)
+  unfolding inTurn
+  turn-refused k h f g =
+      let e : n - i ≡ suc (n - (i + 1)) = omega arith in
+      rw (e, f, ne-eqb k 0 g)
+
+  pub turn-next : i < n → number i ≡ 0 → inTurn number m i (n - i) ≡ inTurn number m (i + 1) (n - (i + 1))
+  unfolding inTurn
+  turn-next h g =
+      let e : n - i ≡ suc (n - (i + 1)) = omega arith in
+      rw (e, eq-eqb (number i) 0 g, add-one i)
+
+  pub turn-end : n ≤ i → accepted m ≡ inTurn number m i (n - i)
+  unfolding inTurn
+  turn-end h =
+      let e : n - i ≡ 0 = omega arith in
+      rw e
+
+-- the walk from the first item on
+pub turn-start : (number : ℕ → ℕ) (m n : ℕ) → inTurn number m 0 n ≡ inTurn number m 0 (n - 0)
+turn-start number m n =
+    let e : n - 0 ≡ n = omega arith in
+    rw e
+
+module _ (s : List ℕ) (i : ℕ) where
+  pub pair-early : offset s i < earliest s i → pairNumber s i ≡ 2
+  unfolding pairNumber
+  pair-early h = rw (lt-leb (earliest s i) (offset s i) h)
+
+  pub pair-past : earliest s i ≤ offset s i → length s < offset s i + size s i → pairNumber s i ≡ 2
+  unfolding pairNumber
+  pair-past h g = rw (le-leb (earliest s i) (offset s i) h, lt-leb (offset s i + size s i) (length s) g)
+
+  pub pair-sound : earliest s i ≤ offset s i → offset s i + size s i ≤ length s → pairNumber s i ≡ 0
+  unfolding pairNumber
+  pair-sound h g = rw (le-leb (earliest s i) (offset s i) h, le-leb (offset s i + size s i) (length s) g)
+
+-- what the limits tell
+pub record Fitting (ceiling : Ceiling) (b n : ℕ) : Type 0 where
+  pub bytes : b ≤ ceiling .bytes
+  pub items : n ≤ ceiling .items
+  pub pairs : 2 + 4 * n ≤ b
+
+pub fitting : (ceiling : Ceiling) (b n : ℕ) → fits ceiling b n ≡ true → Fitting ceiling b n
+fitting ceiling b n h =
+    let p = both (within 2 (ceiling .bytes) b && within 1 (ceiling .items) n) (leb (2 + 4 * n) b) h in
+    let q = both (within 2 (ceiling .bytes) b) (within 1 (ceiling .items) n) (p .0) in
+    record {
+      bytes = within-in 2 (ceiling .bytes) b (q .0) .1;
+      items = within-in 1 (ceiling .items) n (q .1) .1;
+      pairs = leb-true (2 + 4 * n) b (p .1);
+    }
+
+module _ (ceiling : Ceiling) (s : List ℕ) where
+  pub too-short : length s < 2 → refused 1 0 ≡ pairsVerdict ceiling s
+  unfolding pairsVerdict
+  too-short h = rw (lt-leb 2 (length s) h)
+
+  module _ (n : ℕ) (e : n ≡ count s) where
+    pub outside : fits ceiling (length s) n ≡ false → refused 1 0 ≡ pairsVerdict ceiling s
+    unfolding pairsVerdict
+    outside h = rw (rw e at h)
+
+    pub inside : fits ceiling (length s) n ≡ true → inTurn (pairNumber s) n 0 n ≡ pairsVerdict ceiling s
+    unfolding pairsVerdict
+    inside h = rw (e, rw e at h)

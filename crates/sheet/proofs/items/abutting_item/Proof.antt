@@ -1,0 +1,53 @@
+use Rattle.sheet.proofs.Forms.{sized-no, sized-yes}
+use Rattle.sheet.specs.Items.{abuttingItem}
+use mathlib.Core.Path.{_∙_}
+use borrow.Author.Needs.{needs}
+use Rattle.sheet.proofs.items.abutting_item.Statement.{statement}
+use Rattle.sheet.proofs.items.abutting_item.Tie as tie
+
+refused-requires : tie.Need-refused-requires
+refused-requires c κs = search needs
+
+returns : tie.Need-returns
+unfolding abuttingItem
+returns c = c .refused .ensures ∙ sized-no 20 _ _ (c .before .if1 .taken)
+
+u16-at-requires : tie.Need-u16-at-requires
+u16-at-requires c κs = search needs
+
+u32-at-requires : tie.Need-u32-at-requires
+u32-at-requires c κs = search needs
+
+u32-at-requires-2 : tie.Need-u32-at-requires-2
+u32-at-requires-2 c κs = search needs
+
+u32-at-requires-3 : tie.Need-u32-at-requires-3
+u32-at-requires-3 c κs = search needs
+
+u32-at-requires-4 : tie.Need-u32-at-requires-4
+u32-at-requires-4 c κs = search needs
+
+shared-slice-read-t11 : tie.Need-shared-slice-read-t11
+shared-slice-read-t11 c = search needs
+
+no-spans-requires : tie.Need-no-spans-requires
+no-spans-requires c κs = search needs
+
+returns-2 : tie.Need-returns-2
+unfolding abuttingItem
+returns-2 c = rw (c .before .before .before .before .before .before .u16-at .ensures, c .before .before .before .before .before .u32-at .ensures, c .before .before .before .before .u32-at2 .ensures, c .before .before .before .u32-at3 .ensures, c .before .before .u32-at4 .ensures, c .no-spans .ensures) (sized-yes 20 _ _ (c .before .before .before .before .before .before .before .if1 .left))
+
+pub abutting-item-spec : {M : Type 1} → statement M
+abutting-item-spec =
+    tie.close
+    (tie.spec
+    refused-requires
+    returns
+    u16-at-requires
+    u32-at-requires
+    u32-at-requires-2
+    u32-at-requires-3
+    u32-at-requires-4
+    shared-slice-read-t11
+    no-spans-requires
+    returns-2)

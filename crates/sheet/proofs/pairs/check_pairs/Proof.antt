@@ -1,0 +1,90 @@
+use mathlib.Core.Path.{sym}
+use Rattle.sheet.proofs.Turns.{turn-refused, turn-next, turn-end, turn-start, pair-early, pair-past, pair-sound}
+use Rattle.sheet.specs.Sheet.{earliest, pairNumber, inTurn}
+use Prim.Native.Nat.{_≤_, _-_}
+use mathlib.Core.Path.{_≡_, refl, _∙_}
+use native.Mathlib.Numerals.{add-one}
+use native.Mathlib.Omega.{arith}
+use Rattle.sheet.proofs.pairs.check_pairs.Statement.{statement}
+use Rattle.sheet.proofs.pairs.check_pairs.Tie as tie
+
+abbrev Inv-loop : tie.InvT-loop
+Inv-loop s n e₀ i₀ e i = (i ≤ n) × (e ≡ earliest s i) × (inTurn (pairNumber s) n 0 n ≡ inTurn (pairNumber s) n i (n - i))
+
+abbrev μ-loop : tie.MeasureT-loop
+μ-loop s n e₀ i₀ e i = n - i
+
+mul-earliest : tie.Need-mul-earliest Inv-loop μ-loop
+mul-earliest c = omega arith
+
+add-earliest : tie.Need-add-earliest Inv-loop μ-loop
+add-earliest c = omega arith
+
+loop-holds : tie.Need-loop-holds Inv-loop μ-loop
+loop-holds c = (omega arith, omega arith, turn-start _ _ _)
+
+mul-index-at : tie.Need-mul-index-at Inv-loop μ-loop
+mul-index-at c = omega arith
+
+add-index-at : tie.Need-add-index-at Inv-loop μ-loop
+add-index-at c = omega arith
+
+index-at-requires : tie.Need-index-at-requires Inv-loop μ-loop
+index-at-requires c κs = omega arith
+
+mul-index-at-2 : tie.Need-mul-index-at-2 Inv-loop μ-loop
+mul-index-at-2 c = omega arith
+
+add-index-at-2 : tie.Need-add-index-at-2 Inv-loop μ-loop
+add-index-at-2 c = omega arith
+
+add-index-at-3 : tie.Need-add-index-at-3 Inv-loop μ-loop
+add-index-at-3 c = omega arith
+
+index-at-requires-2 : tie.Need-index-at-requires-2 Inv-loop μ-loop
+index-at-requires-2 c κs = omega arith
+
+returns : tie.Need-returns Inv-loop μ-loop
+returns c = turn-refused _ _ _ _ 2 (c .before .before .before .loop-test .taken) (pair-early _ _ (omega arith)) (λ z. omega arith) ∙ sym (c .before .before .before .before .loop .inv .2)
+
+add-earliest-2 : tie.Need-add-earliest-2 Inv-loop μ-loop
+add-earliest-2 c = omega arith
+
+returns-2 : tie.Need-returns-2 Inv-loop μ-loop
+returns-2 c = turn-refused _ _ _ _ 2 (c .before .before .before .before .loop-test .taken) (pair-past _ _ (omega arith) (omega arith)) (λ z. omega arith) ∙ sym (c .before .before .before .before .before .loop .inv .2)
+
+add-i : tie.Need-add-i Inv-loop μ-loop
+add-i c = omega arith
+
+loop-less : tie.Need-loop-less Inv-loop μ-loop
+loop-less c = omega arith
+
+loop-again : tie.Need-loop-again Inv-loop μ-loop
+loop-again c = (omega arith, rw (add-one (c .before .before .before .before .before .loop .i)) (omega arith), c .before .before .before .before .before .loop .inv .2 ∙ turn-next _ _ _ _ (c .before .before .before .before .loop-test .taken) (pair-sound _ _ (omega arith) (omega arith)))
+
+returns-3 : tie.Need-returns-3 Inv-loop μ-loop
+returns-3 c = turn-end _ _ _ _ (c .loop-test .left) ∙ sym (c .before .loop .inv .2)
+
+pub check-pairs-spec : {M : Type 1} → statement M
+check-pairs-spec =
+    tie.close
+    (tie.spec
+    Inv-loop
+    μ-loop
+    mul-earliest
+    add-earliest
+    loop-holds
+    mul-index-at
+    add-index-at
+    index-at-requires
+    mul-index-at-2
+    add-index-at-2
+    add-index-at-3
+    index-at-requires-2
+    returns
+    add-earliest-2
+    returns-2
+    add-i
+    loop-less
+    loop-again
+    returns-3)

@@ -1,0 +1,35 @@
+use Rattle.sheet.specs.Sheet.{fits}
+use Rattle.sheet.proofs.Turns.{fitting, too-short, outside, inside}
+use borrow.Author.Tests.{not-true, not-false}
+use denote.Ref.{now}
+use lib.ListN.{length}
+use mathlib.Core.Path.{_≡_, sym, ap, _∙_}
+use borrow.Author.Needs.{needs}
+use Rattle.sheet.proofs.pairs.read_pairs.Statement.{statement}
+use Rattle.sheet.proofs.pairs.read_pairs.Tie as tie
+
+returns : tie.Need-returns
+returns c = too-short _ _ (c .if1 .taken)
+
+index-at-requires : tie.Need-index-at-requires
+index-at-requires c κs = search needs
+
+mul-end : tie.Need-mul-end
+mul-end c = search needs
+
+add-end : tie.Need-add-end
+add-end c = search needs
+
+returns-2 : tie.Need-returns-2
+returns-2 c = let a = c .before .before .before .before .before .before .args in let n = c .before .before .before .index-at in outside _ _ _ (n .ensures .0) (not-true (fits (a .ceiling) (length (now (a .s))) (n .result)) (c .if2 .taken))
+
+check-pairs-requires : tie.Need-check-pairs-requires
+check-pairs-requires c κs = let a = c .before .before .before .before .before .before .args in let n = c .before .before .before .index-at in (n .ensures .0, fitting _ _ _ (not-false (fits (a .ceiling) (length (now (a .s))) (n .result)) (c .if2 .left)) .pairs)
+
+returns-3 : tie.Need-returns-3
+returns-3 c = let a = c .before .before .before .before .before .before .before .args in let n = c .before .before .before .before .index-at in c .check-pairs .ensures ∙ inside _ _ _ (n .ensures .0) (not-false (fits (a .ceiling) (length (now (a .s))) (n .result)) (c .before .if2 .left))
+
+pub read-pairs-spec : {M : Type 1} → statement M
+read-pairs-spec =
+    tie.close
+    (tie.spec returns index-at-requires mul-end add-end returns-2 check-pairs-requires returns-3)

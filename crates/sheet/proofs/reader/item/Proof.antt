@@ -1,0 +1,63 @@
+use Rattle.sheet.proofs.Kept.{InSheet, located}
+use Rattle.sheet.specs.Sheet.{Answer, Place, accepted, terminals, place, partAt, locatedMeans}
+use denote.Ref.{now}
+use native.Mathlib.Nat.{add-sub-cancel-left}
+use native.Mathlib.Omega.{arith}
+use mathlib.Core.Path.{_≡_, sym, ap, _∙_}
+use borrow.Author.Needs.{needs}
+use Rattle.sheet.proofs.reader.item.Statement.{statement}
+use Rattle.sheet.proofs.reader.item.Tie as tie
+
+found :
+    (c : tie.After-known-told)
+    → place terminals (now (c .before .before .before .before .before .args .s)) (c .before .before .before .before .before .args .index)
+    ≡ accepted (record { start = c .before .offset .given .0 .0; bytes = c .before .offset .given .0 .1 .0 })
+found c = sym (c .before .before .before .locate .ensures) ∙ ap locatedMeans (c .before .offset .given .1)
+
+lies : (c : tie.After-known-told) → InSheet (now (c .before .before .before .before .before .args .s)) (record { start = c .before .offset .given .0 .0; bytes = c .before .offset .given .0 .1 .0 })
+lies c = located _ _ _ _ (found c)
+
+locate-requires : tie.Need-locate-requires
+locate-requires c κs = search needs
+
+enum-known-offset : tie.Need-enum-known-offset
+enum-known-offset c = search needs
+
+add-result : tie.Need-add-result
+add-result c = omega (arith, lies c .within)
+
+sub-result : tie.Need-sub-result
+sub-result c = search needs
+
+part-result-start : tie.Need-part-result-start
+part-result-start c = search needs
+
+part-result-end : tie.Need-part-result-end
+part-result-end c = omega (arith, lies c .within)
+
+enum-told : tie.Need-enum-told
+enum-told c = search needs
+
+slice-aggregate-result : tie.Need-slice-aggregate-result
+slice-aggregate-result c = search needs
+
+returns : tie.Need-returns
+returns c = rw (found (c .before), add-sub-cancel-left)
+
+returns-2 : tie.Need-returns-2
+returns-2 c = ap (λ (p : Answer Place). partAt p (now (c .before .before .before .before .before .args .s))) (sym (ap locatedMeans (c .before .enum-told .given .1)) ∙ c .before .before .before .locate .ensures)
+
+pub item-spec : {M : Type 1} → statement M
+item-spec =
+    tie.close
+    (tie.spec
+    locate-requires
+    enum-known-offset
+    add-result
+    sub-result
+    part-result-start
+    part-result-end
+    enum-told
+    slice-aggregate-result
+    returns
+    returns-2)

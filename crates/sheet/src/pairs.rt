@@ -1,0 +1,62 @@
+// The count and the pairs of a sheet: refusals 1 and 2.
+ghost use mathlib.Core.Path.{_≡_};
+ghost use Prim.Native.Nat.{_+_, _*_, _≤_};
+ghost use lib.ListN.{length};
+ghost use Rattle.sheet.specs.Sheet.{count, pairNumber, inTurn, pairsVerdict, verdictMeans};
+use crate::numbers::index_at;
+
+// Refusals of a sheet's pairs, by document 01's numbers.
+const SHEET_LIMITS: u8 = 1;
+
+const PAIR: u8 = 2;
+
+// The most items and bytes that a caller's sheets may have.
+pub struct Ceiling {
+    pub items: usize,
+    pub bytes: usize,
+}
+
+// What the rules say of a sheet: accepted with its count, or the number and the item of the first broken rule.
+pub enum Verdict {
+    Accepted(usize),
+    Refused(u8, usize),
+}
+
+// The n pairs in turn.
+fn check_pairs(s: &[u8], n: usize) -> Verdict
+    requires { ⌜ (n ≡ count (now s)) × (2 + 4 * n ≤ length (now s)) ⌝ }
+    ensures { λ r. ⌜ verdictMeans r ≡ inTurn (pairNumber (now (s .entry))) n 0 n ⌝ }
+{
+    let mut earliest = 2 + 4 * n;
+    let mut i = 0;
+    while i < n {
+        let offset = index_at(s, 2 + 4 * i);
+        let size = index_at(s, 2 + 4 * i + 2);
+        if offset < earliest {
+            return Verdict::Refused(PAIR, i);
+        }
+        earliest = offset + size;
+        if s.len() < earliest {
+            return Verdict::Refused(PAIR, i);
+        }
+        i += 1;
+    }
+    Verdict::Accepted(n)
+}
+
+// The verdict on a sheet's count and pairs, under a ceiling.
+pub fn read_pairs(s: &[u8], ceiling: Ceiling) -> Verdict
+    ensures { λ r. ⌜ verdictMeans r ≡ pairsVerdict ceiling (now (s .entry)) ⌝ }
+{
+    if s.len() < 2 {
+        return Verdict::Refused(SHEET_LIMITS, 0);
+    }
+    let n = index_at(s, 0);
+    let end = 2 + 4 * n;
+    if !(((2 <= s.len()) & (s.len() <= ceiling.bytes))
+        & ((1 <= n) & (n <= ceiling.items))
+        & (end <= s.len())) {
+        return Verdict::Refused(SHEET_LIMITS, 0);
+    }
+    check_pairs(s, n)
+}

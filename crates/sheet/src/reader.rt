@@ -1,0 +1,155 @@
+// The reader: every rule on a sheet in document 01's order, and its items.
+ghost use mathlib.Core.Path.{_≡_};
+ghost use Prim.Native.Nat.{suc};
+ghost use Rattle.sheet.specs.Items.{content, misplaced, ruleNumber};
+ghost use Rattle.sheet.specs.Sheet.{terminals, count, itemNumber, inTurn, pairsVerdict, accepted, sheetVerdict, place, partAt, verdictMeans, locatedMeans};
+use crate::items::Item;
+use crate::items::decode;
+use crate::numbers::index_at;
+use crate::pairs::Ceiling;
+use crate::pairs::Verdict;
+use crate::pairs::read_pairs;
+use figures::Roof;
+use figures::roof_number;
+use figures::roof_verdict;
+use figures::site_number;
+use figures::site_verdict;
+
+// Refusals that the reader adds, by document 01's numbers.
+const SITE_PLACE: u8 = 5;
+
+const NO_SUCH_ITEM: u8 = 12;
+
+// Where an item lies: its offset and its length; or the number and the item of a refusal.
+pub enum Located {
+    At(usize, usize),
+    Nowhere(u8, usize),
+}
+
+// The number of an item that may not stand where it does: its own refusal, or that of its place.
+fn misplaced_number(item: Item) -> u8
+    ensures { λ r. ⌜ r ≡ misplaced item ⌝ }
+{
+    match item {
+        Item::Malformed(number) => number,
+        Item::SiteItem(_) => SITE_PLACE,
+        Item::RoofItem(_) => SITE_PLACE,
+    }
+}
+
+// The first rule that the first item breaks.
+fn first_number(p: &[u8]) -> u8
+    ensures { λ r. ⌜ r ≡ ruleNumber 0 (content (now (p .entry))) ⌝ }
+{
+    let decoded = decode(p);
+    let item = decoded.item;
+    let Item::SiteItem(site) = item else {
+        return misplaced_number(item);
+    };
+    site_number(site_verdict(site))
+}
+
+// The first rule that a later item breaks.
+fn later_number(p: &[u8]) -> u8
+    ensures { λ r. ⌜ r ≡ ruleNumber 1 (content (now (p .entry))) ⌝ }
+{
+    let decoded = decode(p);
+    let item = decoded.item;
+    let spans = decoded.spans;
+    let Item::RoofItem(shape) = item else {
+        return misplaced_number(item);
+    };
+    roof_number(roof_verdict(Roof {
+        shape: shape,
+        spans: spans,
+    }))
+}
+
+// The n items in turn, where the pairs are accepted.
+fn check_items(s: &[u8], ceiling: Ceiling, n: usize) -> Verdict
+    requires { ⌜ pairsVerdict ceiling (now s) ≡ accepted n ⌝ }
+    ensures { λ r. ⌜ verdictMeans r ≡ inTurn (itemNumber (now (s .entry))) n 0 n ⌝ }
+{
+    let mut i = 0;
+    while i < n {
+        let offset = index_at(s, 2 + 4 * i);
+        let size = index_at(s, 2 + 4 * i + 2);
+        let number = item_number(i, &s[offset..offset + size]);
+        if number != 0 {
+            return Verdict::Refused(number, i);
+        }
+        i += 1;
+    }
+    Verdict::Accepted(n)
+}
+
+// The first rule that the item at an index breaks, 0 where it breaks none.
+fn item_number(index: usize, p: &[u8]) -> u8
+    ensures { λ r. ⌜ r ≡ ruleNumber index (content (now (p .entry))) ⌝ }
+{
+    if index == 0 {
+        return first_number(p);
+    }
+    later_number(p)
+}
+
+// The verdict on a sheet, under a ceiling.
+fn read(s: &[u8], ceiling: Ceiling) -> Verdict
+    ensures { λ r. ⌜ verdictMeans r ≡ sheetVerdict ceiling (now (s .entry)) ⌝ }
+{
+    match read_pairs(s, ceiling) {
+        Verdict::Refused(number, item) => Verdict::Refused(number, item),
+        Verdict::Accepted(n) => check_items(s, ceiling, n),
+    }
+}
+
+// Where the item at an index lies, under a ceiling.
+fn locate_under(s: &[u8], ceiling: Ceiling, index: usize) -> Located
+    ensures { λ r. ⌜ locatedMeans r ≡ place ceiling (now (s .entry)) index ⌝ }
+{
+    match read(s, ceiling) {
+        Verdict::Refused(number, item) => Located::Nowhere(number, item),
+        Verdict::Accepted(n) => {
+            if n <= index {
+                return Located::Nowhere(NO_SUCH_ITEM, index);
+            }
+            let offset = index_at(s, 2 + 4 * index);
+            let size = index_at(s, 2 + 4 * index + 2);
+            Located::At(offset, size)
+        }
+    }
+}
+
+// The ceiling of the terminals.
+fn terminal_ceiling() -> Ceiling
+    ensures { λ r. ⌜ r ≡ terminals ⌝ }
+{
+    Ceiling {
+        items: 32,
+        bytes: 16_384,
+    }
+}
+
+// The verdict on any bytes as a sheet: accepted with its count, or the first broken rule's number and item.
+pub fn verdict(s: &[u8]) -> Verdict
+    ensures { λ r. ⌜ verdictMeans r ≡ sheetVerdict terminals (now (s .entry)) ⌝ }
+{
+    read(s, terminal_ceiling())
+}
+
+// Where the item at an index lies in the sheet, or the first broken rule; 12 for the index comes last.
+pub fn locate(s: &[u8], index: usize) -> Located
+    ensures { λ r. ⌜ locatedMeans r ≡ place terminals (now (s .entry)) index ⌝ }
+{
+    locate_under(s, terminal_ceiling(), index)
+}
+
+// The item at an index, as that part of the sheet; the empty part where `locate` refuses.
+pub fn item<'a>(s: &'a [u8], index: usize) -> &'a [u8]
+    ensures { λ r. ⌜ now r ≡ partAt (place terminals (now (s .entry)) index) (now (s .entry)) ⌝ }
+{
+    match locate(s, index) {
+        Located::At(offset, size) => &s[offset..offset + size],
+        Located::Nowhere(_, _) => &s[..0],
+    }
+}
