@@ -1,12 +1,12 @@
 -- Limits keep order: a limited number or fraction rises with what is limited, and stays within its limits.
-use mathlib.Core.Path.{_≡_, refl}
+use mathlib.Core.Path.{_≡_, refl, ap}
 use mathlib.Core.Bool.{Bool, true, false, cond}
 use Prim.Native.Nat.{ℕ, _*_, _≤_, _<_, min, max}
-use native.Mathlib.Nat.{le-of-lt, mul-le-mul-right, le-of-mul-le-mul-right}
+use native.Mathlib.Nat.{le-of-lt, mul-le-mul-right, le-of-mul-le-mul-right, mul-pos, min-eq-left, min-eq-right, max-eq-left, max-eq-right}
 use native.Mathlib.Omega.{arith}
 use borrow.Author.Tests.{leb-true, leb-false}
 use lib.Dec.{leb}
-use Rattle.rounding.specs.Fraction.{Fraction, Below}
+use Rattle.rounding.specs.Fraction.{Fraction, over, Below, Same}
 use Rattle.rounding.specs.Limit.{smaller, larger, heldTo}
 
 pub min-mono : {a b c d : ℕ} → a ≤ c → b ≤ d → min a b ≤ min c d
@@ -85,3 +85,26 @@ module _ (e f e' f' : Fraction) (p : Below e e') (q : Below f f') where
       larger-is (λ s. Below s (larger e' f')) e f
       (λ t. below-trans f f' (larger e' f') hf' q (larger-right e' f'))
       (λ t. below-trans e e' (larger e' f') he' p (larger-left e' f'))
+
+-- Over one denominator, the lower fraction has the lower numerator.
+ordered :
+    (e f : Fraction) (a b d : ℕ) → 0 < e .den → 0 < f .den → Same e (over a d) → Same f (over b d) → Below e f → a ≤ b
+unfolding Below Same
+ordered e f a b d he hf p q t =
+    let s : a * (e .den * f .den) ≤ b * (e .den * f .den) =
+    omega (arith, mul-le-mul-right d t, ap (λ (z : ℕ). z * f .den) p, ap (λ (z : ℕ). z * e .den) q) in
+    le-of-mul-le-mul-right s (mul-pos he hf)
+
+-- So the smaller has the smaller of the two numerators, and the larger the larger.
+module _ (e f : Fraction) (a b d : ℕ) (he : 0 < e .den) (hf : 0 < f .den) (p : Same e (over a d)) (q : Same f (over b d)) where
+  pub smaller-over : Same (smaller e f) (over (min a b) d)
+  smaller-over =
+      smaller-is (λ s. Same s (over (min a b) d)) e f
+      (λ t. let z : min a b ≡ a = min-eq-left (ordered e f a b d he hf p q t) in rw z p)
+      (λ t. let z : min a b ≡ b = min-eq-right (ordered f e b a d hf he q p t) in rw z q)
+
+  pub larger-over : Same (larger e f) (over (max a b) d)
+  larger-over =
+      larger-is (λ s. Same s (over (max a b) d)) e f
+      (λ t. let z : max a b ≡ b = max-eq-right (ordered e f a b d he hf p q t) in rw z q)
+      (λ t. let z : max a b ≡ a = max-eq-left (ordered f e b a d hf he q p t) in rw z p)

@@ -3,7 +3,7 @@ use mathlib.Core.Path.{_≡_, sym}
 use Prim.Native.Nat.{ℕ, _+_, _-_, _*_, _≤_, _<_}
 use native.Mathlib.Nat.{div-zero, div-mul-le-self, lt-div-mul-add, le-of-mul-le-mul-right, lt-of-mul-lt-mul-right, mul-le-mul-left, mul-le-mul-right}
 use native.Mathlib.Omega.{arith}
-use Rattle.rounding.specs.Fraction.{Fraction, Below, Close}
+use Rattle.rounding.specs.Fraction.{Fraction, Below, Same, Close}
 use Rattle.rounding.specs.Up.{ceilDiv, roundedUp}
 
 -- These two say all that the laws below need of `ceilDiv`: it reaches the quotient, and is less than 1 above it.
@@ -60,3 +60,16 @@ up-least g r f h p = least (g * f .num) (f .den) r h p
 pub up-mono : (g : ℕ) (e f : Fraction) → 0 < e .den → 0 < f .den → Below e f → roundedUp g e ≤ roundedUp g f
 unfolding roundedUp Below
 up-mono g e f he hf p = cross (g * e .num) (e .den) (g * f .num) (f .den) he hf (omega (arith, mul-le-mul-left g p))
+
+-- One number in two forms is rounded up to one.
+pub same-below : (e f : Fraction) → Same e f → Below e f
+unfolding Same Below
+same-below e f p = omega arith
+
+pub same-sym : (e f : Fraction) → Same e f → Same f e
+unfolding Same
+same-sym e f p = sym p
+
+pub up-same : (g : ℕ) (e f : Fraction) → 0 < e .den → 0 < f .den → Same e f → roundedUp g e ≡ roundedUp g f
+up-same g e f he hf p =
+    omega (arith, up-mono g e f he hf (same-below e f p), up-mono g f e hf he (same-below f e (same-sym e f p)))

@@ -1,6 +1,7 @@
 -- Exact values: fractions of whole numbers, and how they compare with whole numbers and with each other.
 -- An order between two fractions says nothing where a denominator is 0, so whoever makes a fraction shows that its denominator is positive.
 use Prim.Native.Nat.{ℕ, _+_, _*_, _≤_, _<_}
+use mathlib.Core.Path.{_≡_}
 
 pub record Fraction : Type 0 where
   pub num : ℕ
@@ -21,6 +22,10 @@ Under r f k = r * f .den < f .num + k * f .den
 -- e ≤ f
 unfoldable pub Below : Fraction → Fraction → Type 0
 Below e f = e .num * f .den ≤ f .num * e .den
+
+-- e and f are one number
+unfoldable pub Same : Fraction → Fraction → Type 0
+Same e f = e .num * f .den ≡ f .num * e .den
 
 -- r counts grains, g to the whole: f ≤ r/g < f + k/g
 pub record Close (g k r : ℕ) (f : Fraction) : Type 0 where

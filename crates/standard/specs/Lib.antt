@@ -1,0 +1,10 @@
+pub mod Abutting
+pub mod Arrangements
+pub mod Bounds
+pub mod Coefficients
+pub mod Cylindrical
+pub mod Monopitch
+pub mod MultiSpan
+pub mod Pitched
+pub mod Projection
+pub mod Stretch

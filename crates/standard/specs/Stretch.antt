@@ -1,0 +1,84 @@
+-- A stretch is one segment before rounding: a part of an uncut ramp, with the exact loads at the ramp's two ends.
+-- A run of stretches, by their index, has no starts of its own: where one starts is the sum of the lengths before it.
+-- Lengths and stations are in quarter millimetres.
+use Prim.Native.Nat.{ℕ, zero, suc, _+_, _-_, _*_, max}
+use mathlib.Core.Bool.{Bool, true, false, cond, _&&_}
+use mathlib.Core.List.{List, [], _∷_, _++_}
+use lib.Dec.{leb}
+use Rattle.rounding.specs.Fraction.{Fraction, over}
+use Rattle.rounding.specs.Limit.{larger}
+use Rattle.rounding.specs.Load.{Load, alone, exact, breakLoad}
+use Rattle.rounding.specs.Ramp.{line, reading}
+
+-- its length on the roof, how far into the uncut ramp it begins, the ramp's whole length, and the ramp's loads at its two ends
+pub record Stretch : Type 0 where
+  pub extent : ℕ
+  pub skip : ℕ
+  pub full : ℕ
+  pub from : Load
+  pub to : Load
+
+-- a stretch of one load
+abbrev pub even : ℕ → Load → Stretch
+even extent l = record { extent = extent; skip = 0; full = extent; from = l; to = l }
+
+-- a whole ramp
+abbrev pub ramp : ℕ → Load → Load → Stretch
+ramp extent from to = record { extent = extent; skip = 0; full = extent; from = from; to = to }
+
+-- 5.2 (5.1): the load at μ is μ × Ce × Ct × sk, and 5.2 (5.2) Cesl times that; factor is Ce × Ct × Cesl in millionths
+unfoldable pub load : Fraction → ℕ → ℕ → Fraction
+load mu factor sk = over (mu .num * factor * sk) (mu .den * 1000000)
+
+-- a load of one part
+abbrev pub loadAlone : Fraction → ℕ → ℕ → Load
+loadAlone mu factor sk = alone (load mu factor sk)
+
+-- the load at μ = 0.8, and no load
+abbrev pub eightTenths : ℕ → ℕ → Load
+eightTenths factor sk = loadAlone (over 8 10) factor sk
+
+abbrev pub noLoad : Load
+noLoad = alone (over 0 1)
+
+-- the reading x into a stretch: the line between the rounded break loads of the uncut ramp, rounded up
+unfoldable pub readIn : Stretch → ℕ → ℕ
+readIn s x = reading (breakLoad 1 (s .from)) (breakLoad 1 (s .to)) (s .full) (s .skip + x)
+
+-- the exact rule x into a stretch: the same line, no load rounded
+unfoldable pub exactIn : Stretch → ℕ → Fraction
+exactIn s x = line (exact (s .from)) (exact (s .to)) (s .full) (s .skip + x)
+
+-- where stretch i of a run starts
+unfoldable pub startOf : (ℕ → Stretch) → ℕ → ℕ
+startOf S zero = 0
+startOf S (suc i) = startOf S i + S i .extent
+
+-- "each start, end, load at start, load at end"
+unfoldable pub segment : (ℕ → Stretch) → ℕ → List ℕ
+segment S i = startOf S i ∷ (startOf S i + S i .extent) ∷ readIn (S i) 0 ∷ readIn (S i) (S i .extent) ∷ []
+
+-- the first n segments, one after the other
+unfoldable pub segments : (ℕ → Stretch) → ℕ → List ℕ
+segments S zero = []
+segments S (suc n) = segments S n ++ segment S n
+
+-- a stretch that starts at start holds the station p
+unfoldable pub holds : ℕ → ℕ → ℕ → Bool
+holds start extent p = leb start p && leb p (start + extent)
+
+-- what stretch i reads at a station, 0 where it does not hold it
+unfoldable pub readingAt : (ℕ → Stretch) → ℕ → ℕ → ℕ
+readingAt S p i = cond (holds (startOf S i) (S i .extent) p) (readIn (S i) (p - startOf S i)) 0
+
+unfoldable pub exactReadingAt : (ℕ → Stretch) → ℕ → ℕ → Fraction
+exactReadingAt S p i = cond (holds (startOf S i) (S i .extent) p) (exactIn (S i) (p - startOf S i)) (over 0 1)
+
+-- "on a shared position it is the greater of the two": the greatest over the first n stretches that hold the station
+unfoldable pub greatest : (ℕ → Stretch) → ℕ → ℕ → ℕ
+greatest S p zero = 0
+greatest S p (suc n) = max (greatest S p n) (readingAt S p n)
+
+unfoldable pub exactGreatest : (ℕ → Stretch) → ℕ → ℕ → Fraction
+exactGreatest S p zero = over 0 1
+exactGreatest S p (suc n) = larger (exactGreatest S p n) (exactReadingAt S p n)
