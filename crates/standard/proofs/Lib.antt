@@ -1,1 +1,9 @@
 pub mod Handy
+pub mod Runs
+pub mod Loads
+pub mod Monopitch
+pub mod Pitched
+pub mod MultiSpan
+pub mod Abutting
+pub mod Projection
+pub mod Cylindrical

@@ -50,9 +50,13 @@ unfoldable pub existsIn : Shape → ℕ → ℕ → Bool
 existsIn shape situation code =
     cond (accidental code) (eqb situation 1 && exceptional shape && persistent shape (code - 10)) (persistent shape code)
 
--- Ce × Ct × Cesl in millionths; Cesl is 1 for the persistent codes
+-- Cesl, which is 1 for the persistent codes, in hundredths
+abbrev pub exceptionalOf : Site → ℕ → ℕ
+exceptionalOf site code = cond (accidental code) (site .cesl) 100
+
+-- Ce × Ct × Cesl in millionths
 unfoldable pub factorOf : Site → ℕ → ℕ
-factorOf site code = site .ce * site .ct * cond (accidental code) (site .cesl) 100
+factorOf site code = site .ce * site .ct * exceptionalOf site code
 
 -- the number of segments
 unfoldable pub countIn : National → Shape → ℕ → ℕ

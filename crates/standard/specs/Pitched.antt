@@ -11,8 +11,10 @@ use Rattle.standard.specs.Stretch.{Stretch, even, loadAlone}
 abbrev pub halved : Bool → Fraction → Fraction
 halved half mu = cond half (over (mu .num) (2 * mu .den)) mu
 
+-- a slope of one load
+abbrev pub slopeStretch : ℕ → ℕ → Slope → ℕ → Bool → Stretch
+slopeStretch factor sk slope guard half = even (4 * slope .width) (loadAlone (halved half (slopeMu slope guard)) factor sk)
+
 unfoldable pub pitched : ℕ → ℕ → Slope → Slope → ℕ → ℕ → ℕ → ℕ → Stretch
-pitched factor sk left right leftGuard rightGuard code zero =
-    even (4 * left .width) (loadAlone (halved (eqb code 2) (slopeMu left leftGuard)) factor sk)
-pitched factor sk left right leftGuard rightGuard code (suc i) =
-    even (4 * right .width) (loadAlone (halved (eqb code 3) (slopeMu right rightGuard)) factor sk)
+pitched factor sk left right leftGuard rightGuard code zero = slopeStretch factor sk left leftGuard (eqb code 2)
+pitched factor sk left right leftGuard rightGuard code (suc i) = slopeStretch factor sk right rightGuard (eqb code 3)

@@ -1,0 +1,24 @@
+use Rattle.loads.proofs.Parts.{part-is, alone-is}
+use Rattle.standard.proofs.Handy.{mu2-is, mu2-positive}
+use Rattle.standard.specs.Coefficients.{mu2}
+use Prim.Native.Nat.{_+_}
+use native.Mathlib.Omega.{arith}
+use borrow.Author.Needs.{needs}
+use Rattle.loads.proofs.breaks.valley_load.Statement.{statement}
+use Rattle.loads.proofs.breaks.valley_load.Tie as tie
+use Rattle.loads.proofs.breaks.valley_load.Reads as reads
+use Rattle.loads.proofs.breaks.valley_load.Lts as lts
+use Rattle.loads.proofs.breaks.load_up.Reads as load-up-reads
+use Rattle.loads.proofs.coefficients.valley_over_750.Reads as valley-over-750-reads
+
+valley-over-750-requires : tie.Need-valley-over-750-requires
+valley-over-750-requires c κs = search needs
+
+load-up-requires : tie.Need-load-up-requires
+load-up-requires c κs = search needs
+
+returns : tie.Need-returns
+returns c = let a = c .before .before .args in let t = a .left + a .right in (alone-is _ _ (part-is (mu2 t) _ 750 _ _ _ (mu2-positive t) (omega arith) (rw (c .before .valley-over-750 .ensures .0) (mu2-is t)) (c .load-up .ensures .0)), c .load-up .ensures .1)
+
+pub valley-load-spec : {M : Type 1} → statement M
+valley-load-spec = tie.close (tie.spec valley-over-750-requires load-up-requires returns)

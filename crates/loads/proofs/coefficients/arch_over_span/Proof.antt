@@ -1,0 +1,37 @@
+use native.Mathlib.Nat.{mul-le-mul-right}
+use Rattle.loads.proofs.Products.{product}
+use Rattle.standard.proofs.Handy.{mu3Num}
+use native.Mathlib.Omega.{arith}
+use borrow.Author.Needs.{needs}
+use Rattle.loads.proofs.coefficients.arch_over_span.Statement.{statement}
+use Rattle.loads.proofs.coefficients.arch_over_span.Tie as tie
+use Rattle.loads.proofs.coefficients.arch_over_span.Reads as reads
+use Rattle.loads.proofs.coefficients.arch_over_span.Lts as lts
+use Rattle.loads.proofs.limits.least.Reads as least-reads
+
+cast-least : tie.Need-cast-least
+cast-least c = search needs
+
+mul-least : tie.Need-mul-least
+mul-least c = let p = c .before .pre in omega (arith, product (p .0 .arch .high) (p .2))
+
+mul-least-2 : tie.Need-mul-least-2
+mul-least-2 c = search needs
+
+mul-least-3 : tie.Need-mul-least-3
+mul-least-3 c = search needs
+
+add-least : tie.Need-add-least
+add-least c = search needs
+
+least-requires : tie.Need-least-requires
+least-requires c κs = search needs
+
+returns : tie.Need-returns
+unfolding mu3Num
+returns c = let s = c .before .before in (c .least .ensures, omega (arith, mul-le-mul-right (s .args .span) (s .pre .0 .arch .high)))
+
+pub arch-over-span-spec : {M : Type 1} → statement M
+arch-over-span-spec =
+    tie.close
+    (tie.spec cast-least mul-least mul-least-2 mul-least-3 add-least least-requires returns)

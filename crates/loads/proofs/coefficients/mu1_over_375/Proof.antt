@@ -1,0 +1,29 @@
+use Rattle.standard.proofs.Handy.{mu1Num}
+use native.Mathlib.Omega.{arith}
+use borrow.Author.Needs.{needs}
+use Rattle.loads.proofs.coefficients.mu1_over_375.Statement.{statement}
+use Rattle.loads.proofs.coefficients.mu1_over_375.Tie as tie
+use Rattle.loads.proofs.coefficients.mu1_over_375.Reads as reads
+use Rattle.loads.proofs.coefficients.mu1_over_375.Lts as lts
+
+sub-result : tie.Need-sub-result
+sub-result c = search needs
+
+returns : tie.Need-returns
+unfolding mu1Num
+returns c = (omega arith, omega arith)
+
+returns-2 : tie.Need-returns-2
+unfolding mu1Num
+returns-2 c = (omega arith, omega arith)
+
+returns-3 : tie.Need-returns-3
+unfolding mu1Num
+returns-3 c = (omega arith, omega arith)
+
+returns-4 : tie.Need-returns-4
+unfolding mu1Num
+returns-4 c = (omega arith, omega arith)
+
+pub mu1-over-375-spec : {M : Type 1} → statement M
+mu1-over-375-spec = tie.close (tie.spec sub-result returns returns-2 returns-3 returns-4)

@@ -1,0 +1,32 @@
+use Rattle.standard.proofs.Handy.{obstacleNum}
+use native.Mathlib.Omega.{arith}
+use borrow.Author.Needs.{needs}
+use Rattle.loads.proofs.coefficients.obstacle_over_ground.Statement.{statement}
+use Rattle.loads.proofs.coefficients.obstacle_over_ground.Tie as tie
+use Rattle.loads.proofs.coefficients.obstacle_over_ground.Reads as reads
+use Rattle.loads.proofs.coefficients.obstacle_over_ground.Lts as lts
+use Rattle.loads.proofs.limits.least.Reads as least-reads
+use Rattle.loads.proofs.limits.most.Reads as most-reads
+
+mul-least : tie.Need-mul-least
+mul-least c = search needs
+
+mul-least-2 : tie.Need-mul-least-2
+mul-least-2 c = search needs
+
+least-requires : tie.Need-least-requires
+least-requires c κs = search needs
+
+mul-most : tie.Need-mul-most
+mul-most c = search needs
+
+most-requires : tie.Need-most-requires
+most-requires c κs = search needs
+
+returns : tie.Need-returns
+unfolding obstacleNum
+returns c = (rw (c .most .ensures, c .before .least .ensures), omega arith)
+
+pub obstacle-over-ground-spec : {M : Type 1} → statement M
+obstacle-over-ground-spec =
+    tie.close (tie.spec mul-least mul-least-2 least-requires mul-most most-requires returns)

@@ -1,0 +1,106 @@
+// Break loads in N/m²: each part of a load rounded up.
+ghost use mathlib.Core.Bool.{Bool};
+ghost use mathlib.Core.Path.{_≡_};
+ghost use Prim.Native.Nat.{_+_, _*_, _≤_};
+ghost use Rattle.figures.specs.Bounds.{Within, SlopeIn};
+ghost use Rattle.loads.specs.Sizes.{Ground, Sized};
+ghost use Rattle.rounding.specs.Load.{breakLoad};
+ghost use Rattle.rounding.specs.Up.{ceilDiv};
+ghost use Rattle.standard.specs.Abutting.{abuttingLength, wallLoad};
+ghost use Rattle.standard.specs.Bounds.{NationalIn};
+ghost use Rattle.standard.specs.Coefficients.{slopeMu, valleyMu, mu3};
+ghost use Rattle.standard.specs.Pitched.{halved};
+ghost use Rattle.standard.specs.Projection.{obstacleLoad};
+ghost use Rattle.standard.specs.Stretch.{loadAlone, eightTenths};
+use crate::coefficients::arch_over_span;
+use crate::coefficients::obstacle_over_ground;
+use crate::coefficients::slide_over_length;
+use crate::coefficients::slope_over_375;
+use crate::coefficients::valley_over_750;
+use crate::coefficients::wind_over_depth;
+use figures::Slope;
+use standard::National;
+
+// n over d millionths, rounded up.
+fn up(n: u64, d: u64) -> u64
+    requires { ⌜ (1 ≤ d) × (d ≤ 20000000) × (n ≤ 7200000 * (d * 1000000)) ⌝ }
+    ensures { λ r. ⌜ (r ≡ ceilDiv n (d * 1000000)) × (r ≤ 7200000) ⌝ }
+{
+    rounding::ceil_div(n, d * 1_000_000)
+}
+
+// The load at μ = m / d, rounded up.
+fn load_up(m: u64, d: u64, factor: u64, sk: u64) -> u64
+    requires { ⌜ Sized m d factor sk ⌝ }
+    ensures { λ r. ⌜ (r ≡ ceilDiv (m * factor * sk) (d * 1000000)) × (r ≤ 7200000) ⌝ }
+{
+    up(m * factor * sk, d)
+}
+
+// The load at μ = 0.8.
+pub fn eight_tenths_load(factor: u64, sk: u64) -> u64
+    requires { ⌜ Ground factor sk ⌝ }
+    ensures { λ r. ⌜ (r ≡ breakLoad 1 (eightTenths factor sk)) × (r ≤ 7200000) ⌝ }
+{
+    load_up(8, 10, factor, sk)
+}
+
+// The load of a slope's μ1, or of half of it.
+pub fn slope_load(slope: Slope, guard: u8, half: bool, factor: u64, sk: u64) -> u64
+    requires { ⌜ (guard ≤ 1) × Ground factor sk ⌝ }
+    ensures { λ r. ⌜ (r ≡ breakLoad 1 (loadAlone (halved half (slopeMu slope guard)) factor sk)) × (r ≤ 7200000) ⌝ }
+{
+    let m = slope_over_375(slope.pitch, guard);
+    if half {
+        return load_up(m, 750, factor, sk);
+    }
+    load_up(m, 375, factor, sk)
+}
+
+// The load at a valley, by the mean of its two pitches.
+pub fn valley_load(left: u16, right: u16, factor: u64, sk: u64) -> u64
+    requires { ⌜ Ground factor sk ⌝ }
+    ensures { λ r. ⌜ (r ≡ breakLoad 1 (loadAlone (valleyMu left right) factor sk)) × (r ≤ 7200000) ⌝ }
+{
+    load_up(valley_over_750(left, right), 750, factor, sk)
+}
+
+// The load of a cylindrical roof's μ3, or of half of it.
+pub fn arch_load(national: National, rise: u64, span: u64, half: bool, factor: u64, sk: u64) -> u64
+    requires { ⌜ NationalIn national × (rise ≤ 15000) × Within 1 30000 span × Ground factor sk ⌝ }
+    ensures { λ r. ⌜ (r ≡ breakLoad 1 (loadAlone (halved half (mu3 national rise span)) factor sk)) × (r ≤ 7200000) ⌝ }
+{
+    let m = arch_over_span(national, rise, span);
+    if half {
+        return load_up(m, 200 * span, factor, sk);
+    }
+    load_up(m, 100 * span, factor, sk)
+}
+
+// The load at the wall of a taller roof: the wind's part and the sliding snow's, each rounded up.
+pub fn wall_load(
+    national: National,
+    b1: u64,
+    b2: u64,
+    h: u64,
+    slope: Slope,
+    guard: u8,
+    ls: u64,
+    factor: u64,
+    sk: u64,
+) -> u64
+    requires { ⌜ NationalIn national × (b1 + b2 ≤ 200000) × Within 1 30000 h × SlopeIn slope × (guard ≤ 1) × (ls ≡ abuttingLength national h) × Within 1000 30000 ls × Ground factor sk ⌝ }
+    ensures { λ r. ⌜ (r ≡ breakLoad 1 (wallLoad national factor sk b1 b2 h slope guard)) × (r ≤ 14400000) ⌝ }
+{
+    let wind = up(wind_over_depth(national, b1 + b2, h, sk) * factor, 200 * h);
+    let slide = load_up(slide_over_length(slope, guard), 375 * ls, factor, sk);
+    wind + slide
+}
+
+// The load at a projection.
+pub fn obstacle_load(h: u64, factor: u64, sk: u64) -> u64
+    requires { ⌜ (h ≤ 30000) × Ground factor sk ⌝ }
+    ensures { λ r. ⌜ (r ≡ breakLoad 1 (obstacleLoad factor sk h)) × (r ≤ 7200000) ⌝ }
+{
+    up(obstacle_over_ground(h, sk) * factor, 10)
+}

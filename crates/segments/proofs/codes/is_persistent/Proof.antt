@@ -1,0 +1,58 @@
+use borrow.Author.Needs.{needs}
+use Rattle.segments.proofs.codes.is_persistent.Statement.{statement}
+use Rattle.segments.proofs.codes.is_persistent.Tie as tie
+use Rattle.segments.proofs.codes.is_persistent.Reads as reads
+use Rattle.segments.proofs.codes.is_persistent.Lts as lts
+
+enum-told : tie.Need-enum-told
+enum-told c = search needs
+
+enum-told-2 : tie.Need-enum-told-2
+enum-told-2 c = search needs
+
+enum-told-3 : tie.Need-enum-told-3
+enum-told-3 c = search needs
+
+enum-told-4 : tie.Need-enum-told-4
+enum-told-4 c = search needs
+
+enum-told-5 : tie.Need-enum-told-5
+enum-told-5 c = search needs
+
+enum-told-6 : tie.Need-enum-told-6
+enum-told-6 c = search needs
+
+returns : tie.Need-returns
+returns c = ?
+
+returns-2 : tie.Need-returns-2
+returns-2 c = ?
+
+returns-3 : tie.Need-returns-3
+returns-3 c = ?
+
+returns-4 : tie.Need-returns-4
+returns-4 c = ?
+
+returns-5 : tie.Need-returns-5
+returns-5 c = ?
+
+returns-6 : tie.Need-returns-6
+returns-6 c = ?
+
+pub is-persistent-spec : {M : Type 1} → statement M
+is-persistent-spec =
+    tie.close
+    (tie.spec
+    enum-told
+    enum-told-2
+    enum-told-3
+    enum-told-4
+    enum-told-5
+    enum-told-6
+    returns
+    returns-2
+    returns-3
+    returns-4
+    returns-5
+    returns-6)

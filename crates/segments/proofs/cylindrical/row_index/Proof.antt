@@ -1,0 +1,17 @@
+use borrow.Author.Needs.{needs}
+use Rattle.segments.proofs.cylindrical.row_index.Statement.{statement}
+use Rattle.segments.proofs.cylindrical.row_index.Tie as tie
+use Rattle.segments.proofs.cylindrical.row_index.Reads as reads
+use Rattle.segments.proofs.cylindrical.row_index.Lts as lts
+
+add-result : tie.Need-add-result
+add-result c = search needs
+
+returns : tie.Need-returns
+returns c = ?
+
+returns-2 : tie.Need-returns-2
+returns-2 c = ?
+
+pub row-index-spec : {M : Type 1} → statement M
+row-index-spec = tie.close (tie.spec add-result returns returns-2)

@@ -1,0 +1,109 @@
+use borrow.Author.Needs.{needs}
+use Rattle.segments.proofs.dispatch.count.Statement.{statement}
+use Rattle.segments.proofs.dispatch.count.Tie as tie
+use Rattle.segments.proofs.dispatch.count.Reads as reads
+use Rattle.segments.proofs.dispatch.count.Lts as lts
+use Rattle.segments.proofs.abutting.abutting_count.Reads as abutting-count-reads
+use Rattle.segments.proofs.cylindrical.cylindrical_count.Reads as cylindrical-count-reads
+use Rattle.segments.proofs.projection.projection_count.Reads as projection-count-reads
+
+enum-told : tie.Need-enum-told
+enum-told c = search needs
+
+enum-told-2 : tie.Need-enum-told-2
+enum-told-2 c = search needs
+
+enum-known-shape : tie.Need-enum-known-shape
+enum-known-shape c = search needs
+
+cast-result : tie.Need-cast-result
+cast-result c = search needs
+
+mul-result : tie.Need-mul-result
+mul-result c = search needs
+
+enum-known-shape-2 : tie.Need-enum-known-shape-2
+enum-known-shape-2 c = search needs
+
+cast-cylindrical-count : tie.Need-cast-cylindrical-count
+cast-cylindrical-count c = search needs
+
+cast-cylindrical-count-2 : tie.Need-cast-cylindrical-count-2
+cast-cylindrical-count-2 c = search needs
+
+cylindrical-count-requires : tie.Need-cylindrical-count-requires
+cylindrical-count-requires c κs = ?
+
+enum-known-shape-3 : tie.Need-enum-known-shape-3
+enum-known-shape-3 c = search needs
+
+cast-abutting-count : tie.Need-cast-abutting-count
+cast-abutting-count c = search needs
+
+cast-abutting-count-2 : tie.Need-cast-abutting-count-2
+cast-abutting-count-2 c = search needs
+
+abutting-count-requires : tie.Need-abutting-count-requires
+abutting-count-requires c κs = ?
+
+enum-known-shape-4 : tie.Need-enum-known-shape-4
+enum-known-shape-4 c = search needs
+
+cast-projection-count : tie.Need-cast-projection-count
+cast-projection-count c = search needs
+
+cast-projection-count-2 : tie.Need-cast-projection-count-2
+cast-projection-count-2 c = search needs
+
+cast-projection-count-3 : tie.Need-cast-projection-count-3
+cast-projection-count-3 c = search needs
+
+projection-count-requires : tie.Need-projection-count-requires
+projection-count-requires c κs = ?
+
+returns : tie.Need-returns
+returns c = ?
+
+returns-2 : tie.Need-returns-2
+returns-2 c = ?
+
+returns-3 : tie.Need-returns-3
+returns-3 c = ?
+
+returns-4 : tie.Need-returns-4
+returns-4 c = ?
+
+returns-5 : tie.Need-returns-5
+returns-5 c = ?
+
+returns-6 : tie.Need-returns-6
+returns-6 c = ?
+
+pub count-spec : {M : Type 1} → statement M
+count-spec =
+    tie.close
+    (tie.spec
+    enum-told
+    enum-told-2
+    enum-known-shape
+    cast-result
+    mul-result
+    enum-known-shape-2
+    cast-cylindrical-count
+    cast-cylindrical-count-2
+    cylindrical-count-requires
+    enum-known-shape-3
+    cast-abutting-count
+    cast-abutting-count-2
+    abutting-count-requires
+    enum-known-shape-4
+    cast-projection-count
+    cast-projection-count-2
+    cast-projection-count-3
+    projection-count-requires
+    returns
+    returns-2
+    returns-3
+    returns-4
+    returns-5
+    returns-6)

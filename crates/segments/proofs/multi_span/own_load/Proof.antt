@@ -1,0 +1,19 @@
+use borrow.Author.Needs.{needs}
+use Rattle.segments.proofs.multi_span.own_load.Statement.{statement}
+use Rattle.segments.proofs.multi_span.own_load.Tie as tie
+use Rattle.segments.proofs.multi_span.own_load.Reads as reads
+use Rattle.segments.proofs.multi_span.own_load.Lts as lts
+use Rattle.loads.proofs.slope_load.Reads as slope-load-reads
+use Rattle.segments.proofs.multi_span.slope_at.Reads as slope-at-reads
+
+slope-at-requires : tie.Need-slope-at-requires
+slope-at-requires c κs = search needs
+
+slope-load-requires : tie.Need-slope-load-requires
+slope-load-requires c κs = search needs
+
+returns : tie.Need-returns
+returns c = ?
+
+pub own-load-spec : {M : Type 1} → statement M
+own-load-spec = tie.close (tie.spec slope-at-requires slope-load-requires returns)

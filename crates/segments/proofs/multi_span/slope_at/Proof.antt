@@ -1,0 +1,20 @@
+use borrow.Author.Needs.{needs}
+use Rattle.segments.proofs.multi_span.slope_at.Statement.{statement}
+use Rattle.segments.proofs.multi_span.slope_at.Tie as tie
+use Rattle.segments.proofs.multi_span.slope_at.Reads as reads
+use Rattle.segments.proofs.multi_span.slope_at.Lts as lts
+
+mul-span : tie.Need-mul-span
+mul-span c = search needs
+
+array-copy-out-span : tie.Need-array-copy-out-span
+array-copy-out-span c = search needs
+
+returns : tie.Need-returns
+returns c = ?
+
+returns-2 : tie.Need-returns-2
+returns-2 c = ?
+
+pub slope-at-spec : {M : Type 1} → statement M
+slope-at-spec = tie.close (tie.spec mul-span array-copy-out-span returns returns-2)

@@ -1,0 +1,27 @@
+use borrow.Author.Needs.{needs}
+use Rattle.segments.proofs.multi_span.valley_at.Statement.{statement}
+use Rattle.segments.proofs.multi_span.valley_at.Tie as tie
+use Rattle.segments.proofs.multi_span.valley_at.Reads as reads
+use Rattle.segments.proofs.multi_span.valley_at.Lts as lts
+use Rattle.loads.proofs.valley_load.Reads as valley-load-reads
+use Rattle.segments.proofs.multi_span.slope_at.Reads as slope-at-reads
+
+slope-at-requires : tie.Need-slope-at-requires
+slope-at-requires c κs = search needs
+
+add-slope-at : tie.Need-add-slope-at
+add-slope-at c = search needs
+
+slope-at-requires-2 : tie.Need-slope-at-requires-2
+slope-at-requires-2 c κs = search needs
+
+valley-load-requires : tie.Need-valley-load-requires
+valley-load-requires c κs = search needs
+
+returns : tie.Need-returns
+returns c = ?
+
+pub valley-at-spec : {M : Type 1} → statement M
+valley-at-spec =
+    tie.close
+    (tie.spec slope-at-requires add-slope-at slope-at-requires-2 valley-load-requires returns)

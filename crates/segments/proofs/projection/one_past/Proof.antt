@@ -1,0 +1,13 @@
+use Rattle.segments.proofs.projection.one_past.Statement.{statement}
+use Rattle.segments.proofs.projection.one_past.Tie as tie
+use Rattle.segments.proofs.projection.one_past.Reads as reads
+use Rattle.segments.proofs.projection.one_past.Lts as lts
+
+returns : tie.Need-returns
+returns c = ?
+
+returns-2 : tie.Need-returns-2
+returns-2 c = ?
+
+pub one-past-spec : {M : Type 1} → statement M
+one-past-spec = tie.close (tie.spec returns returns-2)

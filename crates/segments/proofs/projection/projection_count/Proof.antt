@@ -1,0 +1,36 @@
+use borrow.Author.Needs.{needs}
+use Rattle.segments.proofs.projection.projection_count.Statement.{statement}
+use Rattle.segments.proofs.projection.projection_count.Tie as tie
+use Rattle.segments.proofs.projection.projection_count.Reads as reads
+use Rattle.segments.proofs.projection.projection_count.Lts as lts
+use Rattle.segments.proofs.projection.one_past.Reads as one-past-reads
+use Rattle.segments.proofs.projection.projection_length.Reads as projection-length-reads
+
+projection-length-requires : tie.Need-projection-length-requires
+projection-length-requires c κs = search needs
+
+one-past-requires : tie.Need-one-past-requires
+one-past-requires c κs = search needs
+
+one-past-requires-2 : tie.Need-one-past-requires-2
+one-past-requires-2 c κs = search needs
+
+add-result : tie.Need-add-result
+add-result c = search needs
+
+add-result-2 : tie.Need-add-result-2
+add-result-2 c = search needs
+
+returns : tie.Need-returns
+returns c = ?
+
+pub projection-count-spec : {M : Type 1} → statement M
+projection-count-spec =
+    tie.close
+    (tie.spec
+    projection-length-requires
+    one-past-requires
+    one-past-requires-2
+    add-result
+    add-result-2
+    returns)

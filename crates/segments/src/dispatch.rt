@@ -1,0 +1,138 @@
+// The stretch at an index, the number of stretches and the roof's end, by the shape.
+ghost use mathlib.Core.Path.{_≡_};
+ghost use lib.Dec.{eqb};
+ghost use Prim.Native.Nat.{_≤_, _<_};
+ghost use Rattle.figures.specs.Bounds.{ShapeIn};
+ghost use Rattle.loads.specs.Sizes.{Ground};
+ghost use Rattle.segments.specs.Ramps.{rampOf, RampIn};
+ghost use Rattle.standard.specs.Arrangements.{countIn, stretchIn, endIn};
+ghost use Rattle.standard.specs.Bounds.{NationalIn};
+use crate::abutting::abutting_count;
+use crate::abutting::abutting_ramp;
+use crate::cylindrical::cylindrical_count;
+use crate::cylindrical::cylindrical_ramp;
+use crate::monopitch::slope_ramp;
+use crate::multi_span::multi_span_ramp;
+use crate::multi_span::widths_of;
+use crate::pitched::pitched_ramp;
+use crate::projection::projection_count;
+use crate::projection::projection_ramp;
+use crate::ramps::Ramp;
+use figures::Roof;
+use figures::Shape;
+use standard::National;
+
+// The number of segments of a persistent code.
+pub fn count(national: National, roof: Roof, code: u8) -> usize
+    requires { ⌜ NationalIn national × ShapeIn (roof .shape) (roof .spans) ⌝ }
+    ensures { λ r. ⌜ (r ≡ countIn national (roof .shape) code) × (r ≤ 32) ⌝ }
+{
+    let shape = roof.shape;
+    match shape {
+        Shape::Monopitch { .. } => 1,
+        Shape::Pitched { .. } => 2,
+        Shape::MultiSpan { count } => 2 * (count as usize),
+        Shape::Cylindrical { rise, span } => cylindrical_count(rise as u64, span as u64, code == 1),
+        Shape::Abutting {
+            b1: _,
+            b2,
+            h,
+            slope: _,
+            guard: _,
+        } => abutting_count(national, b2 as u64, h as u64, code == 1),
+        Shape::Projection { h, left, right } => projection_count(
+            h as u64,
+            left as u64,
+            right as u64,
+        ),
+    }
+}
+
+// The stretch at an index of a persistent code, with its break loads.
+pub fn ramp_at(national: National, roof: Roof, code: u8, factor: u64, sk: u64, i: usize) -> Ramp
+    requires { ⌜ NationalIn national × ShapeIn (roof .shape) (roof .spans) × Ground factor sk × (i < countIn national (roof .shape) code) ⌝ }
+    ensures { λ r. ⌜ (r ≡ rampOf (stretchIn national (roof .shape) (roof .spans) factor sk code i)) × RampIn r ⌝ }
+{
+    let shape = roof.shape;
+    let spans = roof.spans;
+    match shape {
+        Shape::Monopitch { slope, guard } => slope_ramp(slope, guard, false, factor, sk),
+        Shape::Pitched {
+            left,
+            right,
+            left_guard,
+            right_guard,
+        } => pitched_ramp(left, right, left_guard, right_guard, code, factor, sk, i),
+        Shape::MultiSpan { count } => multi_span_ramp(
+            spans,
+            count as usize,
+            code == 1,
+            factor,
+            sk,
+            i,
+        ),
+        Shape::Cylindrical { rise, span } => cylindrical_ramp(
+            national,
+            rise as u64,
+            span as u64,
+            code == 1,
+            factor,
+            sk,
+            i,
+        ),
+        Shape::Abutting {
+            b1,
+            b2,
+            h,
+            slope,
+            guard,
+        } => abutting_ramp(
+            national,
+            b1 as u64,
+            b2 as u64,
+            h as u64,
+            slope,
+            guard,
+            code == 1,
+            factor,
+            sk,
+            i,
+        ),
+        Shape::Projection { h, left, right } => projection_ramp(
+            h as u64,
+            left as u64,
+            right as u64,
+            factor,
+            sk,
+            i,
+        ),
+    }
+}
+
+// The roof's length in quarter millimetres.
+pub fn end(roof: Roof) -> u64
+    requires { ⌜ ShapeIn (roof .shape) (roof .spans) ⌝ }
+    ensures { λ r. ⌜ r ≡ endIn (roof .shape) (roof .spans) ⌝ }
+{
+    let shape = roof.shape;
+    let spans = roof.spans;
+    match shape {
+        Shape::Monopitch { slope, guard: _ } => 4 * (slope.width as u64),
+        Shape::Pitched {
+            left,
+            right,
+            left_guard: _,
+            right_guard: _,
+        } => 4 * (left.width as u64 + right.width as u64),
+        Shape::MultiSpan { count } => 4 * widths_of(spans, count as usize),
+        Shape::Cylindrical { rise: _, span } => 4 * (span as u64),
+        Shape::Abutting {
+            b1: _,
+            b2,
+            h: _,
+            slope: _,
+            guard: _,
+        } => 4 * (b2 as u64),
+        Shape::Projection { h: _, left, right } => 4 * (left as u64 + right as u64),
+    }
+}
