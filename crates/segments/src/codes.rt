@@ -2,23 +2,19 @@
 ghost use mathlib.Core.Path.{_≡_};
 ghost use Prim.Native.Nat.{_≤_};
 ghost use Rattle.figures.specs.Bounds.{SiteIn};
-ghost use Rattle.standard.specs.Arrangements.{persistent, exceptional, accidental, baseCode, exists, exceptionalOf, factorOf};
+ghost use Rattle.standard.specs.Arrangements.{persistent, exceptional, baseCode, exists, exceptionalOf, factorOf};
 use figures::Roof;
 use figures::Shape;
 use figures::Site;
 
-// Whether a code is accidental: one of 11, 12, 13, if it exists.
-fn is_accidental(code: u8) -> bool
-    ensures { λ r. ⌜ r ≡ accidental code ⌝ }
-{
-    11 <= code
-}
+// The first accidental code: 11, 12 and 13 are the shapes of 1, 2 and 3.
+const ACCIDENTAL: u8 = 11;
 
 // The persistent code of the same shape.
 pub fn base_code(code: u8) -> u8
     ensures { λ r. ⌜ r ≡ baseCode code ⌝ }
 {
-    if is_accidental(code) { code - 10 } else { code }
+    if ACCIDENTAL <= code { code - 10 } else { code }
 }
 
 // Whether a shape has a persistent code.
@@ -54,7 +50,7 @@ pub fn has_code(site: Site, roof: Roof, code: u8) -> bool
     ensures { λ r. ⌜ r ≡ exists site roof code ⌝ }
 {
     let shape = roof.shape;
-    if is_accidental(code) {
+    if ACCIDENTAL <= code {
         return (site.situation == 1) & is_exceptional(shape) & is_persistent(shape, code - 10);
     }
     is_persistent(shape, code)
@@ -65,7 +61,7 @@ fn exceptional_factor(site: Site, code: u8) -> u64
     requires { ⌜ SiteIn site ⌝ }
     ensures { λ r. ⌜ (r ≡ exceptionalOf site code) × (r ≤ 300) ⌝ }
 {
-    if is_accidental(code) {
+    if ACCIDENTAL <= code {
         return site.cesl as u64;
     }
     100

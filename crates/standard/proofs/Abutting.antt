@@ -57,8 +57,8 @@ module _ (national : National) (factor b1 b2 h : ℕ) (slope : Slope) (guard : �
   wall-up s t hs p hh =
       record {
         first =
-          load-without-up factor s t _ _ _ _ (200 * h) (omega arith)
-          (wind-is national b1 b2 h s hh hs) (wind-is national b1 b2 h t hh (omega arith)) (wind-num-up national (b1 + b2) h s t p);
+            load-without-up factor s t _ _ _ _ (200 * h) (omega arith)
+            (wind-is national b1 b2 h s hh hs) (wind-is national b1 b2 h t hh (omega arith)) (wind-num-up national (b1 + b2) h s t p);
         second = load-up factor s t (muSlide slope guard (abuttingLength national h)) p;
       }
 
@@ -89,7 +89,7 @@ module _ (national : National) (factor b1 b2 h : ℕ) (slope : Slope) (guard : �
   abutting-level false sk zero e = let z : _≡_ {A = ℕ} 0 1 = cc in absurd (omega arith)
   abutting-level false sk (suc i) e = even-level _ _
 
--- the first of two stretches is a ramp
+-- Of two stretches the first is a ramp.
 pub abutting-apart :
     (national : National) (b2 h : ℕ) (undrifted : Bool) (i : ℕ) → suc i < abuttingCount national b2 h undrifted → (not undrifted && eqb i 0) ≡ false → ⊥
 unfolding abuttingCount

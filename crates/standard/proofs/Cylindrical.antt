@@ -3,23 +3,22 @@ use Prim.Native.Nat.{ℕ, zero, suc, _+_, _-_, _*_, _≤_, _<_}
 use mathlib.Core.Path.{_≡_, refl, subst}
 use mathlib.Core.Bool.{Bool, true, false, cond, not, _&&_}
 use mathlib.Core.Logic.{⊎-elim}
-use borrow.Author.Tests.{leb-true, leb-false, le-leb, lt-leb, ltb-true, ltb-false}
+use borrow.Author.Tests.{leb-true, le-leb, lt-leb, ltb-true, ltb-false}
 use lib.Dec.{leb, ltb}
 use native.Mathlib.Decide.{decLe}
 use native.Mathlib.Nat.{mul-le-mul, mul-le-mul-left, mul-pos, le-trans, add-sub-of-le, eq-or-lt-of-le, pos-of-ne-zero}
 use native.Mathlib.Omega.{arith}
 use Rattle.figures.specs.Ranges.{within}
 use Rattle.figures.specs.Bounds.{CylindricalIn}
-use Rattle.rounding.specs.Fraction.{over}
 use Rattle.rounding.specs.Up.{ceilDiv, roundedUp}
 use Rattle.rounding.specs.Load.{Load, Positive, breakLoad}
 use Rattle.rounding.proofs.Rounding.{below-least}
 use Rattle.standard.specs.Coefficients.{mu3}
-use Rattle.standard.specs.Stretch.{ramp, load, startOf, eightTenths, noLoad}
+use Rattle.standard.specs.Stretch.{load, startOf, eightTenths, noLoad}
 use Rattle.standard.specs.Cylindrical.{firstFrom, wideEnough, loadedWidth, archEven, archDrift, peakLoad, halfLoad, cylindrical, cylindricalCount}
 use Rattle.standard.specs.declared.National.{National}
 use Rattle.standard.proofs.Handy.{mu3-positive}
-use Rattle.standard.proofs.Runs.{Fine, Level, Upward, Rises, WellFormed, even-fine, even-level, even-rises, formed, outside}
+use Rattle.standard.proofs.Runs.{Fine, Level, Upward, Rises, WellFormed, ramp-fine, even-fine, even-level, ramp-rises, even-rises, formed, outside, ramp-beside}
 use Rattle.standard.proofs.Loads.{alone-positive, eight-tenths-positive, no-load-positive, steady-up, no-load-up}
 
 -- r is where a search from n on of at most k tries ends
@@ -53,7 +52,7 @@ module _ (test : ℕ → Bool) where
       both-ways : (m : ℕ) → test m ≡ true → test m ≡ false → ⊥
       both-ways m p q = let z : _≡_ {A = ℕ} 0 1 = cc in omega arith
 
--- with a ≤ b and c ≤ d, (b − a) × (d − c) is not below 0
+-- (b − a) × (d − c) is not below 0, multiplied out
 product : {a b c d : ℕ} → a ≤ b → c ≤ d → a * d + b * c ≤ a * c + b * d
 product {a} {b} {c} {d} p q =
     subst (λ (x : ℕ). a * d + x * c ≤ a * c + x * d) (add-sub-of-le p) (omega (arith, mul-le-mul-left (b - a) q))
@@ -65,7 +64,7 @@ module _ (rise span : ℕ) where
 
   pub wide-true : (ls : ℕ) → wideEnough rise span ls ≡ true → Wide ls
   unfolding wideEnough
-  wide-true ls e = leb-true (3 * ((span * span + 4 * (rise * rise)) * (span * span + 4 * (rise * rise)))) (8 * rise * ls * (8 * rise * ls)) e
+  wide-true ls e = leb-true _ _ e
 
   pub true-wide : (ls : ℕ) → Wide ls → wideEnough rise span ls ≡ true
   unfolding wideEnough
@@ -76,7 +75,7 @@ module _ (rise span : ℕ) where
       let q : 8 * rise * m ≤ 8 * rise * n = mul-le-mul-left (8 * rise) p in
       true-wide n (le-trans (wide-true m e) (mul-le-mul q q))
 
-  -- Its right side less its left, at ls = span, is (12 × rise² − span²) × (3 × span² − 4 × rise²).
+  -- At ls = span the right side less the left is (12 × rise² − span²) × (3 × span² − 4 × rise²).
   pub span-wide-enough : 2 * rise ≤ span → span * span < 12 * (rise * rise) → wideEnough rise span span ≡ true
   span-wide-enough p q =
       let sq : 2 * rise * (2 * rise) ≤ span * span = mul-le-mul p p in
@@ -131,9 +130,17 @@ module _ (rise span : ℕ) where
       by-steepness (λ w. 0 < w) (omega arith)
       (pos-of-ne-zero (λ z. nothing-not-wide h (rw z at (found .taken (omega arith)))))
 
+no-load-break : breakLoad 1 noLoad ≡ 0
+unfolding breakLoad roundedUp ceilDiv
+no-load-break = refl
+
+eight-tenths-break : (factor sk : ℕ) → 0 < factor → 0 < sk → 0 < breakLoad 1 (eightTenths factor sk)
+unfolding breakLoad roundedUp load
+eight-tenths-break factor sk hf hs = omega (arith, below-least (1 * (8 * factor * sk)) (10 * 1000000) 0 (omega arith) (omega (arith, mul-pos hf hs)))
+
 module _ (span ls : ℕ) where
   module _ (some : 0 < ls) where
-    -- the row of one load, where bare ends are some length
+    -- A row has its bare ends only where they have a length.
     arch-even-fine : (factor sk j : ℕ) → (j ≡ 0 → ls < span) → (1 < j → ls < span) → Fine (archEven factor sk span ls j)
     unfolding archEven
     arch-even-fine factor sk zero f g = even-fine _ _ (omega (arith, f refl)) no-load-positive
@@ -152,16 +159,13 @@ module _ (span ls : ℕ) where
         (omega (arith, g refl))
 
     module _ (half peak : Load) (p : Positive half) (q : Positive peak) where
-      ramp-fine : (from to : Load) → Positive from → Positive to → Fine (ramp ls from to)
-      ramp-fine from to a b = record { some = some; inside = omega arith; from-positive = a; to-positive = b }
-
       arch-drift-fine : (j : ℕ) → (j ≡ 0 → ls < span) → (4 < j → ls < span) → Fine (archDrift half peak span ls j)
       unfolding archDrift
       arch-drift-fine zero f g = even-fine _ _ (omega (arith, f refl)) no-load-positive
-      arch-drift-fine (suc zero) f g = ramp-fine noLoad half no-load-positive p
-      arch-drift-fine (suc (suc zero)) f g = ramp-fine half noLoad p no-load-positive
-      arch-drift-fine (suc (suc (suc zero))) f g = ramp-fine noLoad peak no-load-positive q
-      arch-drift-fine (suc (suc (suc (suc zero)))) f g = ramp-fine peak noLoad q no-load-positive
+      arch-drift-fine (suc zero) f g = ramp-fine ls noLoad half some no-load-positive p
+      arch-drift-fine (suc (suc zero)) f g = ramp-fine ls half noLoad some p no-load-positive
+      arch-drift-fine (suc (suc (suc zero))) f g = ramp-fine ls noLoad peak some no-load-positive q
+      arch-drift-fine (suc (suc (suc (suc zero)))) f g = ramp-fine ls peak noLoad some q no-load-positive
       arch-drift-fine (suc (suc (suc (suc (suc j))))) f g = even-fine _ _ (omega (arith, g (omega arith))) no-load-positive
 
       arch-drift-formed :
@@ -187,18 +191,25 @@ module _ (span ls : ℕ) where
   arch-even-level factor sk (suc zero) = even-level _ _
   arch-even-level factor sk (suc (suc j)) = even-level _ _
 
-  ramp-rises : (from to from' to' : Load) → Upward from from' → Upward to to' → Rises (ramp ls from to) (ramp ls from' to')
-  ramp-rises from to from' to' a b = record { extent = refl; skip = refl; full = refl; from = a; to = b }
+  arch-even-apart :
+      (factor sk : ℕ) → 0 < factor → 0 < sk → (bare : Bool) (i : ℕ) → suc i < cond bare 3 1
+      → breakLoad 1 (archEven factor sk span ls (cond bare i (suc i)) .from) ≡ breakLoad 1 (archEven factor sk span ls (cond bare (suc i) (suc (suc i))) .from)
+      → ⊥
+  unfolding archEven
+  arch-even-apart factor sk hf hs true zero c e = omega (arith, no-load-break, eight-tenths-break factor sk hf hs)
+  arch-even-apart factor sk hf hs true (suc zero) c e = omega (arith, no-load-break, eight-tenths-break factor sk hf hs)
+  arch-even-apart factor sk hf hs true (suc (suc i)) c e = omega arith
+  arch-even-apart factor sk hf hs false i c e = omega arith
 
   arch-drift-rises :
       (half peak half' peak' : Load) → Upward half half' → Upward peak peak' → (j : ℕ)
       → Rises (archDrift half peak span ls j) (archDrift half' peak' span ls j)
   unfolding archDrift
   arch-drift-rises half peak half' peak' p q zero = even-rises _ _ _ no-load-up
-  arch-drift-rises half peak half' peak' p q (suc zero) = ramp-rises _ _ _ _ no-load-up p
-  arch-drift-rises half peak half' peak' p q (suc (suc zero)) = ramp-rises _ _ _ _ p no-load-up
-  arch-drift-rises half peak half' peak' p q (suc (suc (suc zero))) = ramp-rises _ _ _ _ no-load-up q
-  arch-drift-rises half peak half' peak' p q (suc (suc (suc (suc zero)))) = ramp-rises _ _ _ _ q no-load-up
+  arch-drift-rises half peak half' peak' p q (suc zero) = ramp-rises ls _ _ _ _ no-load-up p
+  arch-drift-rises half peak half' peak' p q (suc (suc zero)) = ramp-rises ls _ _ _ _ p no-load-up
+  arch-drift-rises half peak half' peak' p q (suc (suc (suc zero))) = ramp-rises ls _ _ _ _ no-load-up q
+  arch-drift-rises half peak half' peak' p q (suc (suc (suc (suc zero)))) = ramp-rises ls _ _ _ _ q no-load-up
   arch-drift-rises half peak half' peak' p q (suc (suc (suc (suc (suc j))))) = even-rises _ _ _ no-load-up
 
   arch-drift-level : (half peak : Load) (j : ℕ) → (1 ≤ j → j ≤ 4 → ⊥) → Level (archDrift half peak span ls j)
@@ -209,14 +220,6 @@ module _ (span ls : ℕ) where
   arch-drift-level half peak (suc (suc (suc zero))) o = absurd (o (omega arith) (omega arith))
   arch-drift-level half peak (suc (suc (suc (suc zero)))) o = absurd (o (omega arith) (omega arith))
   arch-drift-level half peak (suc (suc (suc (suc (suc j))))) o = even-level _ _
-
-no-load-break : breakLoad 1 noLoad ≡ 0
-unfolding breakLoad roundedUp ceilDiv
-no-load-break = refl
-
-eight-tenths-break : (factor sk : ℕ) → 0 < factor → 0 < sk → 0 < breakLoad 1 (eightTenths factor sk)
-unfolding breakLoad roundedUp load
-eight-tenths-break factor sk hf hs = omega (arith, below-least (1 * (8 * factor * sk)) (10 * 1000000) 0 (omega arith) (omega (arith, mul-pos hf hs)))
 
 module _ (national : National) (factor rise span : ℕ) where
   half-positive : (sk : ℕ) → 0 < span → Positive (halfLoad national factor sk rise span)
@@ -260,3 +263,20 @@ module _ (national : National) (factor rise span : ℕ) where
   unfolding cylindrical
   cylindrical-level true sk i e = arch-even-level span (loadedWidth rise span) factor sk _
   cylindrical-level false sk i e = arch-drift-level span (loadedWidth rise span) _ _ _ (outside 1 4 _ e)
+
+  -- In code 1 the bare ends stand beside 0.8, and in code 2 beside ramps.
+  pub cylindrical-apart :
+      (undrifted : Bool) (sk i : ℕ) → 0 < factor → 0 < sk → suc i < cylindricalCount rise span undrifted
+      → (not undrifted && within 1 4 (cond (ltb (loadedWidth rise span) span) i (suc i))) ≡ false
+      → (not undrifted && within 1 4 (cond (ltb (loadedWidth rise span) span) (suc i) (suc (suc i)))) ≡ false
+      → breakLoad 1 (cylindrical national factor sk rise span undrifted i .from) ≡ breakLoad 1 (cylindrical national factor sk rise span undrifted (suc i) .from)
+      → ⊥
+  unfolding cylindrical cylindricalCount
+  cylindrical-apart true sk i hf hs c e e' d =
+      arch-even-apart span (loadedWidth rise span) factor sk hf hs (ltb (loadedWidth rise span) span) i c d
+  cylindrical-apart false sk i hf hs c e e' d =
+      ramp-beside (ltb (loadedWidth rise span) span) 4 i (omega arith) (at-most (ltb (loadedWidth rise span) span) c) e e'
+    where
+      at-most : (bare : Bool) → suc i < cond bare 6 4 → suc i < cond bare 1 0 + (4 + 1)
+      at-most true c = omega arith
+      at-most false c = omega arith

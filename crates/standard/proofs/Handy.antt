@@ -1,14 +1,14 @@
 -- The shape coefficients over one denominator each, which is the form that code computes and order is seen in.
 use Prim.Native.Nat.{ℕ, _+_, _-_, _*_, _≤_, _<_, min, max}
-use mathlib.Core.Path.{_≡_, refl, sym, ap, _∙_}
+use mathlib.Core.Path.{_≡_, refl, ap}
 use mathlib.Core.Bool.{Bool, true, false, cond}
 use borrow.Author.Tests.{leb-true, leb-false, ltb-true, ltb-false, eqb-true, eqb-false}
 use lib.Dec.{leb, ltb, eqb}
 use native.Mathlib.Nat.{mul-pos}
 use native.Mathlib.Omega.{arith}
 use Rattle.figures.specs.declared.roof.Slope.{Slope}
-use Rattle.rounding.specs.Fraction.{Fraction, over, sum, Same, Below}
-use Rattle.rounding.specs.Limit.{smaller, larger}
+use Rattle.rounding.specs.Fraction.{Fraction, over, sum, Same}
+use Rattle.rounding.specs.Limit.{smaller}
 use Rattle.rounding.proofs.Limits.{smaller-positive, larger-positive, smaller-over, larger-over}
 use Rattle.standard.specs.Coefficients.{mu1, guarded, slopeMu, mu2, mu3, muWind, muSlide, muProjection}
 use Rattle.standard.specs.Stretch.{load}

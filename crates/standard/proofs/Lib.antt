@@ -7,3 +7,4 @@ pub mod MultiSpan
 pub mod Abutting
 pub mod Projection
 pub mod Cylindrical
+pub mod Demand

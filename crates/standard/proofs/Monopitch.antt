@@ -1,5 +1,5 @@
 -- Kind 2: its one stretch is the roof, and rises with sk.
-use Prim.Native.Nat.{ℕ, _*_, _≤_, _<_}
+use Prim.Native.Nat.{ℕ, _*_, _≤_}
 use native.Mathlib.Omega.{arith}
 use Rattle.figures.specs.declared.roof.Slope.{Slope}
 use Rattle.figures.specs.Bounds.{MonopitchIn}
@@ -7,7 +7,7 @@ use Rattle.standard.specs.Coefficients.{slopeMu}
 use Rattle.standard.specs.Stretch.{startOf}
 use Rattle.standard.specs.Monopitch.{monopitch}
 use Rattle.standard.proofs.Handy.{slope-mu-positive}
-use Rattle.standard.proofs.Runs.{Rises, WellFormed, even-fine, even-rises, formed}
+use Rattle.standard.proofs.Runs.{Level, Rises, WellFormed, even-fine, even-level, even-rises, formed}
 use Rattle.standard.proofs.Loads.{alone-positive, steady-up}
 
 module _ (factor : ℕ) (slope : Slope) (guard : ℕ) where
@@ -21,3 +21,7 @@ module _ (factor : ℕ) (slope : Slope) (guard : ℕ) where
   pub monopitch-rises : (s t i : ℕ) → s ≤ t → Rises (monopitch factor s slope guard i) (monopitch factor t slope guard i)
   unfolding monopitch
   monopitch-rises s t i p = even-rises _ _ _ (steady-up factor s t (slopeMu slope guard) p)
+
+  pub monopitch-level : (sk i : ℕ) → Level (monopitch factor sk slope guard i)
+  unfolding monopitch
+  monopitch-level sk i = even-level _ _

@@ -1,5 +1,5 @@
 -- Kind 4: its stretches are the slopes from left to right, and rise with sk.
-use Prim.Native.Nat.{ℕ, zero, suc, _+_, _-_, _*_, _/_, _%_, _≤_, _<_}
+use Prim.Native.Nat.{ℕ, zero, suc, _+_, _-_, _*_, _/_, _%_, _≤_}
 use mathlib.Core.Path.{_≡_, refl}
 use mathlib.Core.Bool.{Bool, true, false, cond, _||_}
 use mathlib.Core.List.{List}
@@ -13,7 +13,7 @@ use Rattle.rounding.specs.Load.{Load, Positive}
 use Rattle.standard.specs.Stretch.{startOf}
 use Rattle.standard.specs.MultiSpan.{slopeOf, ownLoad, valleyLoad, multiSpanFrom, multiSpanTo, multiSpan, widths}
 use Rattle.standard.proofs.Handy.{mu1-positive, mu2-positive}
-use Rattle.standard.proofs.Runs.{Fine, Upward, Rises, Level, WellFormed, formed}
+use Rattle.standard.proofs.Runs.{Fine, Level, Upward, Rises, WellFormed, ramp-fine, ramp-rises, formed}
 use Rattle.standard.proofs.Loads.{alone-positive, steady-up}
 
 either-positive : (b : Bool) (l m : Load) → Positive l → Positive m → Positive (cond b l m)
@@ -68,12 +68,9 @@ module _ (spans : List Span) where
       multi-span-fine : (sk i : ℕ) → SlopeIn (slopeOf spans i) → Fine (multiSpan factor sk spans count undrifted i)
       unfolding multiSpan multiSpanFrom multiSpanTo
       multi-span-fine sk i f =
-          record {
-            some = omega (arith, f .width .low);
-            inside = omega arith;
-            from-positive = either-positive (undrifted || eqb i 0 || eqb (i % 2) 1) _ _ (own-positive sk i) (valley-positive sk _);
-            to-positive = either-positive (undrifted || eqb (i + 1) (2 * count) || eqb (i % 2) 0) _ _ (own-positive sk i) (valley-positive sk i);
-          }
+          ramp-fine _ _ _ (omega (arith, f .width .low))
+          (either-positive (undrifted || eqb i 0 || eqb (i % 2) 1) _ _ (own-positive sk i) (valley-positive sk _))
+          (either-positive (undrifted || eqb (i + 1) (2 * count) || eqb (i % 2) 0) _ _ (own-positive sk i) (valley-positive sk i))
 
       spans-length : (sk n : ℕ) → startOf (multiSpan factor sk spans count undrifted) (2 * n) ≡ 4 * widths spans n
       unfolding startOf multiSpan widths
@@ -91,15 +88,11 @@ module _ (spans : List Span) where
       pub multi-span-rises : (s t i : ℕ) → s ≤ t → Rises (multiSpan factor s spans count undrifted i) (multiSpan factor t spans count undrifted i)
       unfolding multiSpan multiSpanFrom multiSpanTo
       multi-span-rises s t i p =
-          record {
-            extent = refl;
-            skip = refl;
-            full = refl;
-            from = either-up (undrifted || eqb i 0 || eqb (i % 2) 1) _ _ _ _ (own-up s t i p) (valley-up s t _ p);
-            to = either-up (undrifted || eqb (i + 1) (2 * count) || eqb (i % 2) 0) _ _ _ _ (own-up s t i p) (valley-up s t i p);
-          }
+          ramp-rises _ _ _ _ _
+          (either-up (undrifted || eqb i 0 || eqb (i % 2) 1) _ _ _ _ (own-up s t i p) (valley-up s t _ p))
+          (either-up (undrifted || eqb (i + 1) (2 * count) || eqb (i % 2) 0) _ _ _ _ (own-up s t i p) (valley-up s t i p))
 
-    -- The first slope is a left one and the last a right one: each has its own load at its ridge, and no valley.
+    -- The first slope is a left one and the last a right one, so neither has a valley: its own load stands at both its ends.
     pub multi-span-level :
         (count : ℕ) (undrifted : Bool) (sk i : ℕ) → (undrifted || eqb i 0 || eqb (i + 1) (2 * count)) ≡ true
         → Level (multiSpan factor sk spans count undrifted i)

@@ -18,15 +18,15 @@ halved-positive : (half : Bool) (mu : Fraction) → 0 < mu .den → 0 < halved h
 halved-positive true mu h = omega arith
 halved-positive false mu h = h
 
-module _ (factor : ℕ) (left right : Slope) (leftGuard rightGuard code : ℕ) where
-  load-halved : (half : Bool) (slope : Slope) (guard sk : ℕ) → Positive (loadAlone (halved half (slopeMu slope guard)) factor sk)
-  load-halved half slope guard sk =
-      alone-positive (halved half (slopeMu slope guard)) factor sk (halved-positive half (slopeMu slope guard) (slope-mu-positive slope guard))
+slope-load-positive : (half : Bool) (slope : Slope) (guard factor sk : ℕ) → Positive (loadAlone (halved half (slopeMu slope guard)) factor sk)
+slope-load-positive half slope guard factor sk =
+    alone-positive (halved half (slopeMu slope guard)) factor sk (halved-positive half (slopeMu slope guard) (slope-mu-positive slope guard))
 
+module _ (factor : ℕ) (left right : Slope) (leftGuard rightGuard code : ℕ) where
   pitched-fine : (sk i : ℕ) → PitchedIn left right leftGuard rightGuard → Fine (pitched factor sk left right leftGuard rightGuard code i)
   unfolding pitched
-  pitched-fine sk zero f = even-fine _ _ (omega (arith, f .left .width .low)) (load-halved (eqb code 2) left leftGuard sk)
-  pitched-fine sk (suc i) f = even-fine _ _ (omega (arith, f .right .width .low)) (load-halved (eqb code 3) right rightGuard sk)
+  pitched-fine sk zero f = even-fine _ _ (omega (arith, f .left .width .low)) (slope-load-positive (eqb code 2) left leftGuard factor sk)
+  pitched-fine sk (suc i) f = even-fine _ _ (omega (arith, f .right .width .low)) (slope-load-positive (eqb code 3) right rightGuard factor sk)
 
   pub pitched-formed :
       (sk : ℕ) → PitchedIn left right leftGuard rightGuard

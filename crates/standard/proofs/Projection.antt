@@ -13,7 +13,7 @@ use Rattle.standard.specs.Coefficients.{driftLength, muProjection}
 use Rattle.standard.specs.Stretch.{startOf, eightTenths}
 use Rattle.standard.specs.Projection.{projectionLength, obstacleLoad, besides, projection, projectionCount}
 use Rattle.standard.proofs.Handy.{obstacleNum, obstacle-positive, obstacle-is}
-use Rattle.standard.proofs.Runs.{Fine, Level, Upward, Rises, WellFormed, even-fine, even-level, even-rises, formed, outside}
+use Rattle.standard.proofs.Runs.{Fine, Level, Upward, Rises, WellFormed, even-fine, even-level, even-rises, formed, outside, ramp-beside}
 use Rattle.standard.proofs.Loads.{alone-positive, eight-tenths-positive, alone-up, steady-up, load-without-up}
 
 module _ (ls left right : ℕ) (hl : 0 < ls) (ha : 0 < left) (hb : 0 < right) (peak rest : Load) (p : Positive peak) (r : Positive rest) where
@@ -65,7 +65,7 @@ obstacle-num-up : (h s t : ℕ) → s ≤ t → obstacleNum h s ≤ obstacleNum 
 unfolding obstacleNum
 obstacle-num-up h s t p = omega arith
 
-module _ (factor h left right : ℕ) where
+module _ (factor h : ℕ) where
   obstacle-up : (s t : ℕ) → 0 < s → s ≤ t → Upward (obstacleLoad factor s h) (obstacleLoad factor t h)
   unfolding obstacleLoad
   obstacle-up s t hs p =
@@ -77,37 +77,32 @@ module _ (factor h left right : ℕ) where
   unfolding obstacleLoad
   obstacle-load-positive sk hs = alone-positive (muProjection h sk) factor sk (obstacle-positive h sk hs)
 
+module _ (factor h left right : ℕ) where
   pub projection-formed :
       (sk : ℕ) → 0 < sk → ProjectionIn h left right
       → WellFormed (projection factor sk h left right) (projectionCount h left right) (4 * (left + right))
   unfolding projection projectionCount
   projection-formed sk hs f =
       besides-formed (projectionLength h) left right (projection-length-positive h) (f .left .low) (f .right .low)
-      (obstacleLoad factor sk h) (eightTenths factor sk) (obstacle-load-positive sk hs) (eight-tenths-positive factor sk)
+      (obstacleLoad factor sk h) (eightTenths factor sk) (obstacle-load-positive factor h sk hs) (eight-tenths-positive factor sk)
       (ltb (projectionLength h) left) (ltb (projectionLength h) right) (ltb-true _ _) (ltb-false _ _) (ltb-true _ _) (ltb-false _ _)
 
   pub projection-rises : (s t i : ℕ) → 0 < s → s ≤ t → Rises (projection factor s h left right i) (projection factor t h left right i)
   unfolding projection
-  projection-rises s t i hs p = besides-rises (projectionLength h) left right _ _ _ _ (obstacle-up s t hs p) (steady-up factor s t _ p) _
+  projection-rises s t i hs p = besides-rises (projectionLength h) left right _ _ _ _ (obstacle-up factor h s t hs p) (steady-up factor s t _ p) _
 
   pub projection-level :
       (sk i : ℕ) → within 1 2 (cond (ltb (projectionLength h) left) i (suc i)) ≡ false → Level (projection factor sk h left right i)
   unfolding projection
   projection-level sk i e = besides-level (projectionLength h) left right _ _ _ (outside 1 2 _ e)
 
--- of two neighbours one is a ramp
-module _ (h left right i : ℕ) where
-  pub projection-apart :
-      suc i < projectionCount h left right → within 1 2 (cond (ltb (projectionLength h) left) i (suc i)) ≡ false
-      → within 1 2 (cond (ltb (projectionLength h) left) (suc i) (suc (suc i))) ≡ false → ⊥
-  unfolding projectionCount
-  projection-apart c e e' = go (ltb (projectionLength h) left) (ltb (projectionLength h) right) i c (outside 1 2 _ e) (outside 1 2 _ e')
-    where
-      go :
-          (a b : Bool) (i : ℕ) → suc i < cond a 1 0 + (2 + cond b 1 0) → (1 ≤ cond a i (suc i) → cond a i (suc i) ≤ 2 → ⊥)
-          → (1 ≤ cond a (suc i) (suc (suc i)) → cond a (suc i) (suc (suc i)) ≤ 2 → ⊥) → ⊥
-      go true b zero c o o' = o' (omega arith) (omega arith)
-      go true true (suc i) c o o' = o (omega arith) (omega arith)
-      go true false (suc i) c o o' = o (omega arith) (omega arith)
-      go false true i c o o' = o (omega arith) (omega arith)
-      go false false i c o o' = o (omega arith) (omega arith)
+pub projection-apart :
+    (h left right i : ℕ) → suc i < projectionCount h left right → within 1 2 (cond (ltb (projectionLength h) left) i (suc i)) ≡ false
+    → within 1 2 (cond (ltb (projectionLength h) left) (suc i) (suc (suc i))) ≡ false → ⊥
+unfolding projectionCount
+projection-apart h left right i c e e' =
+    ramp-beside (ltb (projectionLength h) left) 2 i (omega arith) (omega (arith, at-most-one (ltb (projectionLength h) right))) e e'
+  where
+    at-most-one : (b : Bool) → cond b 1 0 ≤ 1
+    at-most-one true = omega arith
+    at-most-one false = omega arith

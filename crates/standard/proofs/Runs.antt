@@ -1,6 +1,6 @@
 -- Runs of stretches: what holds of each stretch holds of the load read.
 use Prim.Native.Nat.{ℕ, zero, suc, _+_, _-_, _*_, _≤_, _<_, max}
-use mathlib.Core.Path.{_≡_, refl, ap, _∙_}
+use mathlib.Core.Path.{_≡_, refl, _∙_}
 use mathlib.Core.Bool.{Bool, true, false, cond}
 use mathlib.Core.Logic.{⊎-elim}
 use borrow.Author.Tests.{le-leb}
@@ -11,14 +11,10 @@ use Rattle.figures.specs.Ranges.{within}
 use Rattle.figures.proofs.Laws.{within-in}
 use Rattle.rounding.specs.Fraction.{Fraction, over, AtMost, Under, Below}
 use Rattle.rounding.specs.Limit.{larger}
-use Rattle.rounding.specs.Load.{Load, Positive, exact, breakLoad}
-use Rattle.rounding.specs.Ramp.{reading}
+use Rattle.rounding.specs.Load.{Load, Positive, breakLoad}
 use Rattle.rounding.proofs.Ramps.{close-whole, exact-positive, line-positive, ramp-close, ramp-mono, reading-start, reading-end}
 use Rattle.rounding.proofs.Limits.{larger-is}
-use Rattle.standard.specs.Stretch.{Stretch, even, readIn, exactIn, startOf, holds, readingAt, exactReadingAt, greatest, exactGreatest}
-
-pub outside : (low high x : ℕ) → within low high x ≡ false → low ≤ x → x ≤ high → ⊥
-outside low high x e a b = let z : _≡_ {A = ℕ} 0 1 = cc (le-leb low x a, le-leb x high b) in omega arith
+use Rattle.standard.specs.Stretch.{Stretch, even, ramp, readIn, exactIn, startOf, holds, readingAt, exactReadingAt, greatest, exactGreatest}
 
 -- a stretch fit to be read
 pub record Fine (s : Stretch) : Type 0 where
@@ -30,8 +26,11 @@ pub record Fine (s : Stretch) : Type 0 where
 pub full-positive : (s : Stretch) → Fine s → 0 < s .full
 full-positive s f = omega arith
 
+pub ramp-fine : (extent : ℕ) (l m : Load) → 0 < extent → Positive l → Positive m → Fine (ramp extent l m)
+ramp-fine extent l m h p q = record { some = h; inside = omega arith; from-positive = p; to-positive = q }
+
 pub even-fine : (extent : ℕ) (l : Load) → 0 < extent → Positive l → Fine (even extent l)
-even-fine extent l h p = record { some = h; inside = omega arith; from-positive = p; to-positive = p }
+even-fine extent l h p = ramp-fine extent l l h p p
 
 -- the load at an end that is not cut
 pub start-load : (s : Stretch) → Fine s → s .skip ≡ 0 → readIn s 0 ≡ breakLoad 1 (s .from)
@@ -74,7 +73,7 @@ near-in s x f h =
       high = c .1;
     }
 
--- Near the lower of two fractions is no further above the higher one.
+-- What is less than 3 above the lower of two fractions is so above the higher one.
 near-higher : (r s : ℕ) (e f : Fraction) → Near r e → Near s f → Below e f → Near (max r s) f
 unfolding AtMost Under Below
 near-higher r s e f p q c =
@@ -95,7 +94,7 @@ near-max r s e f p q =
     (λ c. near-higher r s e f p q c)
     (λ c. rw (max-comm r s) (near-higher s r f e q p c))
 
--- one load is nowhere more than another, part by part
+-- a load no more than another, part by part
 pub record Upward (l m : Load) : Type 0 where
   pub first : Below (l .first) (m .first)
   pub second : Below (l .second) (m .second)
@@ -108,8 +107,11 @@ pub record Rises (s t : Stretch) : Type 0 where
   pub from : Upward (s .from) (t .from)
   pub to : Upward (s .to) (t .to)
 
-pub even-rises : (extent : ℕ) (l m : Load) → Upward l m → Rises (even extent l) (even extent m)
-even-rises extent l m u = record { extent = refl; skip = refl; full = refl; from = u; to = u }
+pub ramp-rises : (extent : ℕ) (l m l' m' : Load) → Upward l l' → Upward m m' → Rises (ramp extent l m) (ramp extent l' m')
+ramp-rises extent l m l' m' p q = record { extent = refl; skip = refl; full = refl; from = p; to = q }
+
+pub even-rises : (extent : ℕ) (l l' : Load) → Upward l l' → Rises (even extent l) (even extent l')
+even-rises extent l l' p = ramp-rises extent l l l' l' p p
 
 rise-in : (s t : Stretch) (x : ℕ) → Fine s → Fine t → Rises s t → readIn s x ≤ readIn t x
 unfolding readIn
@@ -181,7 +183,7 @@ module _ (S : ℕ → Stretch) (p : ℕ) where
         | no a ↦ record { at = w .at; below = omega (arith, w .below); read = omega (arith, w .read) }
       ]
 
-  -- one of the stretches that hold the station reads the greatest there
+  -- of the first n, a stretch that holds the station reads the greatest there
   pub record ReadHeld (n : ℕ) : Type 0 where
     pub at : ℕ
     pub below : at < n
@@ -242,3 +244,14 @@ pub record WellFormed (S : ℕ → Stretch) (n end : ℕ) : Type 0 where
 pub formed : (S : ℕ → Stretch) (n end : ℕ) → 0 < n → n ≤ 32 → ((i : ℕ) → i < n → Fine (S i)) → startOf S n ≡ end → WellFormed S n end
 unfolding startOf
 formed S n end some few each last = record { some = some; few = few; each = each; first = refl; joined = λ i. refl; last = last }
+
+pub outside : (low high x : ℕ) → within low high x ≡ false → low ≤ x → x ≤ high → ⊥
+outside low high x e a b = let z : _≡_ {A = ℕ} 0 1 = cc (le-leb low x a, le-leb x high b) in omega arith
+
+-- In a row of n ramps between two even ends, of which either may be missing, one of two neighbours is a ramp.
+pub ramp-beside :
+    (first : Bool) (n i : ℕ) → 1 ≤ n → suc i < cond first 1 0 + (n + 1) → within 1 n (cond first i (suc i)) ≡ false
+    → within 1 n (cond first (suc i) (suc (suc i))) ≡ false → ⊥
+ramp-beside true n zero h c e e' = outside 1 n 1 e' (omega arith) h
+ramp-beside true n (suc i) h c e e' = outside 1 n (suc i) e (omega arith) (omega arith)
+ramp-beside false n i h c e e' = outside 1 n (suc i) e (omega arith) (omega arith)

@@ -1,21 +1,19 @@
+use native.Mathlib.Omega.{arith}
+use borrow.Author.Tests.{le-leb, lt-leb}
 use borrow.Author.Needs.{needs}
 use Rattle.segments.proofs.codes.exceptional_factor.Statement.{statement}
 use Rattle.segments.proofs.codes.exceptional_factor.Tie as tie
 use Rattle.segments.proofs.codes.exceptional_factor.Reads as reads
 use Rattle.segments.proofs.codes.exceptional_factor.Lts as lts
-use Rattle.segments.proofs.codes.is_accidental.Reads as is-accidental-reads
-
-is-accidental-requires : tie.Need-is-accidental-requires
-is-accidental-requires c κs = search needs
 
 cast-result : tie.Need-cast-result
 cast-result c = search needs
 
 returns : tie.Need-returns
-returns c = ?
+returns c = (rw (le-leb 11 (c .before .before .args .code) (c .before .if1 .taken)), c .before .before .pre .cesl .high)
 
 returns-2 : tie.Need-returns-2
-returns-2 c = ?
+returns-2 c = (rw (lt-leb 11 (c .before .args .code) (c .if1 .left)), omega arith)
 
 pub exceptional-factor-spec : {M : Type 1} → statement M
-exceptional-factor-spec = tie.close (tie.spec is-accidental-requires cast-result returns returns-2)
+exceptional-factor-spec = tie.close (tie.spec cast-result returns returns-2)

@@ -1,3 +1,6 @@
+use Rattle.standard.specs.Arrangements.{factorOf}
+use native.Mathlib.Nat.{mul-le-mul}
+use native.Mathlib.Omega.{arith}
 use borrow.Author.Needs.{needs}
 use Rattle.segments.proofs.codes.factor.Statement.{statement}
 use Rattle.segments.proofs.codes.factor.Tie as tie
@@ -12,16 +15,17 @@ cast-result-2 : tie.Need-cast-result-2
 cast-result-2 c = search needs
 
 mul-result : tie.Need-mul-result
-mul-result c = ?
+mul-result c = let p = c .before .before .pre in omega (arith, mul-le-mul (p .ce .high) (p .ct .high))
 
 exceptional-factor-requires : tie.Need-exceptional-factor-requires
 exceptional-factor-requires c κs = search needs
 
 mul-result-2 : tie.Need-mul-result-2
-mul-result-2 c = ?
+mul-result-2 c = let p = c .before .before .before .pre in omega (arith, mul-le-mul (mul-le-mul (p .ce .high) (p .ct .high)) (c .exceptional-factor .ensures .1))
 
 returns : tie.Need-returns
-returns c = ?
+unfolding factorOf
+returns c = let p = c .before .before .before .pre in (rw (c .exceptional-factor .ensures .0), omega (arith, mul-le-mul (mul-le-mul (p .ce .high) (p .ct .high)) (c .exceptional-factor .ensures .1)))
 
 pub factor-spec : {M : Type 1} → statement M
 factor-spec =

@@ -1,3 +1,4 @@
+use Rattle.standard.specs.Arrangements.{persistent}
 use borrow.Author.Needs.{needs}
 use Rattle.segments.proofs.codes.is_persistent.Statement.{statement}
 use Rattle.segments.proofs.codes.is_persistent.Tie as tie
@@ -23,22 +24,28 @@ enum-told-6 : tie.Need-enum-told-6
 enum-told-6 c = search needs
 
 returns : tie.Need-returns
-returns c = ?
+unfolding persistent
+returns c = rw (c .enum-told .given .1)
 
 returns-2 : tie.Need-returns-2
-returns-2 c = ?
+unfolding persistent
+returns-2 c = rw (c .enum-told2 .given .1)
 
 returns-3 : tie.Need-returns-3
-returns-3 c = ?
+unfolding persistent
+returns-3 c = rw (c .enum-told3 .given .1)
 
 returns-4 : tie.Need-returns-4
-returns-4 c = ?
+unfolding persistent
+returns-4 c = rw (c .enum-told4 .given .1)
 
 returns-5 : tie.Need-returns-5
-returns-5 c = ?
+unfolding persistent
+returns-5 c = rw (c .enum-told5 .given .1)
 
 returns-6 : tie.Need-returns-6
-returns-6 c = ?
+unfolding persistent
+returns-6 c = rw (c .enum-told6 .given .1)
 
 pub is-persistent-spec : {M : Type 1} → statement M
 is-persistent-spec =

@@ -1,3 +1,6 @@
+use Rattle.standard.specs.Cylindrical.{cylindricalCount}
+use borrow.Author.Tests.{ltb-true, ltb-false}
+use native.Mathlib.Omega.{arith}
 use borrow.Author.Needs.{needs}
 use Rattle.segments.proofs.cylindrical.cylindrical_count.Statement.{statement}
 use Rattle.segments.proofs.cylindrical.cylindrical_count.Tie as tie
@@ -9,16 +12,20 @@ loaded-width-requires : tie.Need-loaded-width-requires
 loaded-width-requires c κs = search needs
 
 returns : tie.Need-returns
-returns c = ?
+unfolding cylindricalCount
+returns c = (rw (c .before .if1 .taken, ← c .before .before .loaded-width .ensures .0, c .if2 .taken), omega arith)
 
 returns-2 : tie.Need-returns-2
-returns-2 c = ?
+unfolding cylindricalCount
+returns-2 c = (rw (c .before .if1 .taken, ← c .before .before .loaded-width .ensures .0, c .if2 .left), omega arith)
 
 returns-3 : tie.Need-returns-3
-returns-3 c = ?
+unfolding cylindricalCount
+returns-3 c = (rw (c .before .if1 .left, ← c .before .before .loaded-width .ensures .0, c .if3 .taken), omega arith)
 
 returns-4 : tie.Need-returns-4
-returns-4 c = ?
+unfolding cylindricalCount
+returns-4 c = (rw (c .before .if1 .left, ← c .before .before .loaded-width .ensures .0, c .if3 .left), omega arith)
 
 pub cylindrical-count-spec : {M : Type 1} → statement M
 cylindrical-count-spec =

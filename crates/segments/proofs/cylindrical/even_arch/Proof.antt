@@ -1,3 +1,9 @@
+use Rattle.segments.proofs.Rows.{even-bare}
+use Rattle.segments.proofs.Stretches.{made-is, made-in, no-load}
+use Rattle.segments.specs.Ramps.{rampOf}
+use Rattle.standard.specs.Cylindrical.{archEven}
+use mathlib.Core.Path.{_∙_, ap, sym}
+use native.Mathlib.Omega.{arith}
 use borrow.Author.Needs.{needs}
 use Rattle.segments.proofs.cylindrical.even_arch.Statement.{statement}
 use Rattle.segments.proofs.cylindrical.even_arch.Tie as tie
@@ -16,7 +22,10 @@ even-requires : tie.Need-even-requires
 even-requires c κs = search needs
 
 returns : tie.Need-returns
-returns c = ?
+unfolding archEven
+returns c = let p = c .before .before .before .pre in
+    let l = c .before .eight-tenths-load .ensures in
+    (rw (c .before .before .if1 .taken) (c .even .ensures ∙ made-is _ _ _ _ _ _ _ (l .0) (l .0)), rw (c .even .ensures) (made-in _ _ _ _ _ (omega (arith, p .0 .low)) (omega arith) (omega (arith, p .0 .high, p .1)) (omega (arith, l .1)) (omega (arith, l .1))))
 
 sub-even : tie.Need-sub-even
 sub-even c = search needs
@@ -28,7 +37,8 @@ even-requires-2 : tie.Need-even-requires-2
 even-requires-2 c κs = search needs
 
 returns-2 : tie.Need-returns-2
-returns-2 c = ?
+returns-2 c = let p = c .before .before .pre in
+    (c .even2 .ensures ∙ (made-is _ _ _ _ _ _ _ no-load no-load ∙ ap rampOf (sym (even-bare _ _ _ _ _ (c .before .if1 .left)))), rw (c .even2 .ensures) (made-in _ _ _ _ _ (omega (arith, p .2 (c .before .if1 .left))) (omega arith) (omega (arith, p .1)) (omega arith) (omega arith)))
 
 pub even-arch-spec : {M : Type 1} → statement M
 even-arch-spec =

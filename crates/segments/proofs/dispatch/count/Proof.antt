@@ -1,3 +1,6 @@
+use Rattle.segments.proofs.Shapes.{multi-span-at, cylindrical-at, abutting-at, projection-at}
+use Rattle.standard.specs.Arrangements.{countIn}
+use native.Mathlib.Omega.{arith}
 use borrow.Author.Needs.{needs}
 use Rattle.segments.proofs.dispatch.count.Statement.{statement}
 use Rattle.segments.proofs.dispatch.count.Tie as tie
@@ -32,7 +35,7 @@ cast-cylindrical-count-2 : tie.Need-cast-cylindrical-count-2
 cast-cylindrical-count-2 c = search needs
 
 cylindrical-count-requires : tie.Need-cylindrical-count-requires
-cylindrical-count-requires c κs = ?
+cylindrical-count-requires c κs = cylindrical-at _ _ (c .before .before .before .pre .1) _ _ (c .before .shape2 .given .1)
 
 enum-known-shape-3 : tie.Need-enum-known-shape-3
 enum-known-shape-3 c = search needs
@@ -44,7 +47,7 @@ cast-abutting-count-2 : tie.Need-cast-abutting-count-2
 cast-abutting-count-2 c = search needs
 
 abutting-count-requires : tie.Need-abutting-count-requires
-abutting-count-requires c κs = ?
+abutting-count-requires c κs = let p = c .before .before .before .pre in (p .0, abutting-at _ _ (p .1) _ _ _ _ _ (c .before .shape3 .given .1) .step .high)
 
 enum-known-shape-4 : tie.Need-enum-known-shape-4
 enum-known-shape-4 c = search needs
@@ -59,25 +62,31 @@ cast-projection-count-3 : tie.Need-cast-projection-count-3
 cast-projection-count-3 c = search needs
 
 projection-count-requires : tie.Need-projection-count-requires
-projection-count-requires c κs = ?
+projection-count-requires c κs = projection-at _ _ (c .before .before .before .pre .1) _ _ _ (c .before .shape4 .given .1) .height .high
 
 returns : tie.Need-returns
-returns c = ?
+unfolding countIn
+returns c = (rw (c .enum-told .given .1), omega arith)
 
 returns-2 : tie.Need-returns-2
-returns-2 c = ?
+unfolding countIn
+returns-2 c = (rw (c .enum-told2 .given .1), omega arith)
 
 returns-3 : tie.Need-returns-3
-returns-3 c = ?
+unfolding countIn
+returns-3 c = (rw (c .before .shape .given .1), omega (arith, multi-span-at _ _ (c .before .before .before .pre .1) _ (c .before .shape .given .1) .count .high))
 
 returns-4 : tie.Need-returns-4
-returns-4 c = ?
+unfolding countIn
+returns-4 c = (rw (c .before .before .shape2 .given .1) (c .cylindrical-count .ensures .0), c .cylindrical-count .ensures .1)
 
 returns-5 : tie.Need-returns-5
-returns-5 c = ?
+unfolding countIn
+returns-5 c = (rw (c .before .before .shape3 .given .1) (c .abutting-count .ensures .0), c .abutting-count .ensures .1)
 
 returns-6 : tie.Need-returns-6
-returns-6 c = ?
+unfolding countIn
+returns-6 c = (rw (c .before .before .shape4 .given .1) (c .projection-count .ensures .0), c .projection-count .ensures .1)
 
 pub count-spec : {M : Type 1} → statement M
 count-spec =

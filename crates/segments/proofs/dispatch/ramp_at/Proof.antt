@@ -1,3 +1,8 @@
+use Rattle.segments.proofs.Shapes.{monopitch-at, pitched-at, multi-span-at, cylindrical-at, abutting-at, projection-at, multi-span-index, cylindrical-index, abutting-index, projection-index}
+use Rattle.segments.proofs.Slopes.{slopes-in}
+use Rattle.standard.specs.Monopitch.{monopitch}
+use Rattle.standard.specs.Arrangements.{stretchIn}
+use native.Mathlib.Omega.{arith}
 use borrow.Author.Needs.{needs}
 use Rattle.segments.proofs.dispatch.ramp_at.Statement.{statement}
 use Rattle.segments.proofs.dispatch.ramp_at.Tie as tie
@@ -14,13 +19,13 @@ enum-known-shape : tie.Need-enum-known-shape
 enum-known-shape c = search needs
 
 slope-ramp-requires : tie.Need-slope-ramp-requires
-slope-ramp-requires c κs = ?
+slope-ramp-requires c κs = let p = c .before .before .before .before .pre in let m = monopitch-at _ _ (p .1) _ _ (c .before .shape .given .1) in (m .slope, m .guard, p .2)
 
 enum-known-shape-2 : tie.Need-enum-known-shape-2
 enum-known-shape-2 c = search needs
 
 pitched-ramp-requires : tie.Need-pitched-ramp-requires
-pitched-ramp-requires c κs = ?
+pitched-ramp-requires c κs = let p = c .before .before .before .before .pre in (pitched-at _ _ (p .1) _ _ _ _ (c .before .shape2 .given .1), p .2)
 
 enum-known-shape-3 : tie.Need-enum-known-shape-3
 enum-known-shape-3 c = search needs
@@ -29,7 +34,10 @@ cast-multi-span-ramp : tie.Need-cast-multi-span-ramp
 cast-multi-span-ramp c = search needs
 
 multi-span-ramp-requires : tie.Need-multi-span-ramp-requires
-multi-span-ramp-requires c κs = ?
+multi-span-ramp-requires c κs = let p = c .before .before .before .before .pre in
+    let m = multi-span-at _ _ (p .1) _ (c .before .shape3 .given .1) in
+    let lt = multi-span-index _ _ _ _ (p .3) _ (c .before .shape3 .given .1) in
+    (p .2, m .count .high, lt, slopes-in _ _ m _ lt)
 
 enum-known-shape-4 : tie.Need-enum-known-shape-4
 enum-known-shape-4 c = search needs
@@ -41,7 +49,7 @@ cast-cylindrical-ramp-2 : tie.Need-cast-cylindrical-ramp-2
 cast-cylindrical-ramp-2 c = search needs
 
 cylindrical-ramp-requires : tie.Need-cylindrical-ramp-requires
-cylindrical-ramp-requires c κs = ?
+cylindrical-ramp-requires c κs = let p = c .before .before .before .before .pre in (p .0, cylindrical-at _ _ (p .1) _ _ (c .before .shape4 .given .1), cylindrical-index _ _ _ _ (p .3) _ _ (c .before .shape4 .given .1), p .2)
 
 enum-known-shape-5 : tie.Need-enum-known-shape-5
 enum-known-shape-5 c = search needs
@@ -56,7 +64,7 @@ cast-abutting-ramp-3 : tie.Need-cast-abutting-ramp-3
 cast-abutting-ramp-3 c = search needs
 
 abutting-ramp-requires : tie.Need-abutting-ramp-requires
-abutting-ramp-requires c κs = ?
+abutting-ramp-requires c κs = let p = c .before .before .before .before .pre in (p .0, abutting-at _ _ (p .1) _ _ _ _ _ (c .before .shape5 .given .1), abutting-index _ _ _ _ (p .3) _ _ _ _ _ (c .before .shape5 .given .1), p .2)
 
 enum-known-shape-6 : tie.Need-enum-known-shape-6
 enum-known-shape-6 c = search needs
@@ -71,25 +79,31 @@ cast-projection-ramp-3 : tie.Need-cast-projection-ramp-3
 cast-projection-ramp-3 c = search needs
 
 projection-ramp-requires : tie.Need-projection-ramp-requires
-projection-ramp-requires c κs = ?
+projection-ramp-requires c κs = let p = c .before .before .before .before .pre in (projection-at _ _ (p .1) _ _ _ (c .before .shape6 .given .1), projection-index _ _ _ _ (p .3) _ _ _ (c .before .shape6 .given .1), p .2)
 
 returns : tie.Need-returns
-returns c = ?
+unfolding stretchIn monopitch
+returns c = (rw (c .before .before .shape .given .1) (c .slope-ramp .ensures .0), c .slope-ramp .ensures .1)
 
 returns-2 : tie.Need-returns-2
-returns-2 c = ?
+unfolding stretchIn
+returns-2 c = (rw (c .before .before .shape2 .given .1) (c .pitched-ramp .ensures .0), c .pitched-ramp .ensures .1)
 
 returns-3 : tie.Need-returns-3
-returns-3 c = ?
+unfolding stretchIn
+returns-3 c = (rw (c .before .before .shape3 .given .1) (c .multi-span-ramp .ensures .0), c .multi-span-ramp .ensures .1)
 
 returns-4 : tie.Need-returns-4
-returns-4 c = ?
+unfolding stretchIn
+returns-4 c = (rw (c .before .before .shape4 .given .1) (c .cylindrical-ramp .ensures .0), c .cylindrical-ramp .ensures .1)
 
 returns-5 : tie.Need-returns-5
-returns-5 c = ?
+unfolding stretchIn
+returns-5 c = (rw (c .before .before .shape5 .given .1) (c .abutting-ramp .ensures .0), c .abutting-ramp .ensures .1)
 
 returns-6 : tie.Need-returns-6
-returns-6 c = ?
+unfolding stretchIn
+returns-6 c = (rw (c .before .before .shape6 .given .1) (c .projection-ramp .ensures .0), c .projection-ramp .ensures .1)
 
 pub ramp-at-spec : {M : Type 1} → statement M
 ramp-at-spec =

@@ -1,3 +1,9 @@
+use Rattle.segments.proofs.Stretches.{made-is, made-in}
+use Rattle.standard.specs.MultiSpan.{multiSpan}
+use Rattle.figures.specs.Bounds.{SlopeIn}
+use Prim.Native.Nat.{_*_}
+use mathlib.Core.Path.{_≡_, ap, sym}
+use native.Mathlib.Omega.{arith}
 use borrow.Author.Needs.{needs}
 use Rattle.segments.proofs.multi_span.multi_span_ramp.Statement.{statement}
 use Rattle.segments.proofs.multi_span.multi_span_ramp.Tie as tie
@@ -23,7 +29,13 @@ mul-extent : tie.Need-mul-extent
 mul-extent c = search needs
 
 returns : tie.Need-returns
-returns c = ?
+unfolding multiSpan
+returns c = let s = c .before .before .before .before in
+    let e = c .before .before .before .slope-at .ensures in
+    let w : SlopeIn (c .before .before .before .slope-at .result) = rw e (s .pre .3) in
+    let f = c .before .before .from-load .ensures in
+    let t = c .before .to-load .ensures in
+    (rw e (made-is _ _ _ _ _ _ _ (f .0) (t .0)), made-in _ _ _ _ _ (omega (arith, w .width .low)) (omega arith) (omega (arith, w .width .high)) (omega (arith, f .1)) (omega (arith, t .1)))
 
 pub multi-span-ramp-spec : {M : Type 1} → statement M
 multi-span-ramp-spec =

@@ -1,3 +1,4 @@
+use Rattle.standard.specs.MultiSpan.{valleyLoad}
 use borrow.Author.Needs.{needs}
 use Rattle.segments.proofs.multi_span.valley_at.Statement.{statement}
 use Rattle.segments.proofs.multi_span.valley_at.Tie as tie
@@ -19,7 +20,8 @@ valley-load-requires : tie.Need-valley-load-requires
 valley-load-requires c κs = search needs
 
 returns : tie.Need-returns
-returns c = ?
+unfolding valleyLoad
+returns c = (rw (c .before .before .slope-at .ensures, c .before .slope-at2 .ensures) at (c .valley-load .ensures .0), c .valley-load .ensures .1)
 
 pub valley-at-spec : {M : Type 1} → statement M
 valley-at-spec =

@@ -1,46 +1,53 @@
+use Rattle.segments.proofs.Slopes.{widths-more}
+use Rattle.standard.specs.MultiSpan.{widths}
+use Prim.Native.Nat.{_≤_, _-_, _*_}
+use borrow.Author.Needs.{needs}
+use mathlib.Core.Path.{_≡_, refl}
+use native.Mathlib.Omega.{arith}
 use Rattle.segments.proofs.multi_span.widths_of.Statement.{statement}
 use Rattle.segments.proofs.multi_span.widths_of.Tie as tie
 use Rattle.segments.proofs.multi_span.widths_of.Reads as reads
 use Rattle.segments.proofs.multi_span.widths_of.Lts as lts
 
 abbrev Inv-loop : tie.InvT-loop
-Inv-loop count spans sum₀ i₀ sum i = ?
+Inv-loop count spans sum₀ i₀ sum i = (i ≤ count) × (sum ≡ widths spans i) × (sum ≤ 8589934592 * i)
 
 abbrev μ-loop : tie.MeasureT-loop
-μ-loop count spans sum₀ i₀ sum i = ?
+μ-loop count spans sum₀ i₀ sum i = count - i
 
 loop-holds : tie.Need-loop-holds Inv-loop μ-loop
-loop-holds c = ?
+unfolding widths
+loop-holds c = (omega arith, refl, omega arith)
 
 mul-span : tie.Need-mul-span Inv-loop μ-loop
-mul-span c = ?
+mul-span c = search needs
 
 array-copy-out-span : tie.Need-array-copy-out-span Inv-loop μ-loop
-array-copy-out-span c = ?
+array-copy-out-span c = search needs
 
 cast-sum : tie.Need-cast-sum Inv-loop μ-loop
-cast-sum c = ?
+cast-sum c = search needs
 
 cast-sum-2 : tie.Need-cast-sum-2 Inv-loop μ-loop
-cast-sum-2 c = ?
+cast-sum-2 c = search needs
 
 add-sum : tie.Need-add-sum Inv-loop μ-loop
-add-sum c = ?
+add-sum c = search needs
 
 add-sum-2 : tie.Need-add-sum-2 Inv-loop μ-loop
-add-sum-2 c = ?
+add-sum-2 c = search needs
 
 add-i : tie.Need-add-i Inv-loop μ-loop
-add-i c = ?
+add-i c = search needs
 
 loop-less : tie.Need-loop-less Inv-loop μ-loop
-loop-less c = ?
+loop-less c = search needs
 
 loop-again : tie.Need-loop-again Inv-loop μ-loop
-loop-again c = ?
+loop-again c = let l = c .before .before .before .before .before .before .loop in (omega arith, omega (arith, widths-more (c .before .before .before .before .before .before .before .args .t1) (l .i), l .inv .1), omega arith)
 
 returns : tie.Need-returns Inv-loop μ-loop
-returns c = ?
+returns c = let l = c .before .loop in let e : l .i ≡ c .before .before .args .count = omega arith in (rw e at (l .inv .1), omega arith)
 
 pub widths-of-spec : {M : Type 1} → statement M
 widths-of-spec =

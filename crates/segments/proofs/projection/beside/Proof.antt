@@ -1,3 +1,10 @@
+use Rattle.segments.proofs.Rows.{besides-last}
+use Rattle.segments.proofs.Stretches.{made-is, made-in}
+use Rattle.segments.specs.Ramps.{rampOf}
+use Rattle.standard.specs.Projection.{besides}
+use Prim.Native.Nat.{_<_}
+use mathlib.Core.Path.{_∙_, ap, sym}
+use native.Mathlib.Omega.{arith}
 use borrow.Author.Needs.{needs}
 use Rattle.segments.proofs.projection.beside.Statement.{statement}
 use Rattle.segments.proofs.projection.beside.Tie as tie
@@ -9,11 +16,17 @@ use Rattle.loads.proofs.least.Reads as least-reads
 use Rattle.loads.proofs.less.Reads as less-reads
 use Rattle.segments.proofs.ramps.even.Reads as even-reads
 
+past : (c : tie.At-match-rest) → c .before .before .args .ls < c .before .before .args .right
+past c =
+    let m = c .match .rest in
+    let h : 2 < c .before .before .args .j = omega (arith, m .1, m .0 .1, m .0 .0 .1) in
+    c .before .before .pre .4 h
+
 eight-tenths-load-requires : tie.Need-eight-tenths-load-requires
 eight-tenths-load-requires c κs = search needs
 
 sub-even : tie.Need-sub-even
-sub-even c = ?
+sub-even c = omega (arith, c .before .before .pre .3 (c .match .keys1))
 
 mul-even : tie.Need-mul-even
 mul-even c = search needs
@@ -52,7 +65,7 @@ obstacle-load-requires-2 : tie.Need-obstacle-load-requires-2
 obstacle-load-requires-2 c κs = search needs
 
 sub-even-2 : tie.Need-sub-even-2
-sub-even-2 c = ?
+sub-even-2 c = omega (arith, past c)
 
 mul-even-2 : tie.Need-mul-even-2
 mul-even-2 c = search needs
@@ -61,16 +74,33 @@ even-requires-2 : tie.Need-even-requires-2
 even-requires-2 c κs = search needs
 
 returns : tie.Need-returns
-returns c = ?
+unfolding besides
+returns c = let p = c .before .before .before .pre in
+    let l = c .before .before .eight-tenths-load .ensures in
+    (rw (c .before .match .keys1) (c .even .ensures ∙ made-is _ _ _ _ _ _ _ (l .0) (l .0)), rw (c .even .ensures) (made-in _ _ _ _ _ (omega (arith, p .3 (c .before .match .keys1))) (omega arith) (omega (arith, p .0 .left .high)) (omega (arith, l .1)) (omega (arith, l .1))))
 
 returns-2 : tie.Need-returns-2
-returns-2 c = ?
+unfolding besides
+returns-2 c = let p = c .before .before .before .before .before .pre in
+    let l = c .before .before .before .before .eight-tenths-load .ensures in
+    let o = c .obstacle-load .ensures in
+    let m = c .before .before .least .ensures in
+    let s = c .before .less .ensures in
+    (rw (c .before .before .before .match .keys2, m, s) (made-is _ _ _ _ _ _ _ (l .0) (o .0)), made-in _ _ _ _ _ (omega (arith, m, p .0 .left .low, p .2 .low)) (omega (arith, m, s)) (omega (arith, p .2 .high)) (omega (arith, l .1)) (omega (arith, o .1)))
 
 returns-3 : tie.Need-returns-3
-returns-3 c = ?
+unfolding besides
+returns-3 c = let p = c .before .before .before .before .pre in
+    let l = c .before .before .before .eight-tenths-load .ensures in
+    let o = c .obstacle-load2 .ensures in
+    let m = c .before .least2 .ensures in
+    (rw (c .before .before .match .keys3, m) (made-is _ _ _ _ _ _ _ (o .0) (l .0)), made-in _ _ _ _ _ (omega (arith, m, p .0 .right .low, p .2 .low)) (omega (arith, m)) (omega (arith, p .2 .high)) (omega (arith, o .1)) (omega (arith, l .1)))
 
 returns-4 : tie.Need-returns-4
-returns-4 c = ?
+returns-4 c = let p = c .before .before .before .pre in
+    let l = c .before .before .eight-tenths-load .ensures in
+    let m = c .before .match .rest in
+    (c .even2 .ensures ∙ (made-is _ _ _ _ _ _ _ (l .0) (l .0) ∙ ap rampOf (sym (besides-last _ _ _ _ _ _ (m .0 .0 .1) (m .0 .1) (m .1)))), rw (c .even2 .ensures) (made-in _ _ _ _ _ (omega (arith, past (c .before))) (omega arith) (omega (arith, p .0 .right .high)) (omega (arith, l .1)) (omega (arith, l .1))))
 
 pub beside-spec : {M : Type 1} → statement M
 beside-spec =

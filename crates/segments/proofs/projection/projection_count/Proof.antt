@@ -1,3 +1,5 @@
+use Rattle.standard.specs.Projection.{projectionCount}
+use native.Mathlib.Omega.{arith}
 use borrow.Author.Needs.{needs}
 use Rattle.segments.proofs.projection.projection_count.Statement.{statement}
 use Rattle.segments.proofs.projection.projection_count.Tie as tie
@@ -22,7 +24,8 @@ add-result-2 : tie.Need-add-result-2
 add-result-2 c = search needs
 
 returns : tie.Need-returns
-returns c = ?
+unfolding projectionCount
+returns c = (rw (c .before .one-past .ensures .0, c .one-past2 .ensures .0, c .before .before .projection-length .ensures .0), omega (arith, c .before .one-past .ensures .1, c .one-past2 .ensures .1))
 
 pub projection-count-spec : {M : Type 1} → statement M
 projection-count-spec =

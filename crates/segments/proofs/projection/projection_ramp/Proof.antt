@@ -1,3 +1,7 @@
+use Rattle.segments.proofs.Rows.{projection-row, projection-few}
+use Rattle.standard.specs.Projection.{projection}
+use mathlib.Core.Path.{_≡_, _∙_}
+use native.Mathlib.Omega.{arith}
 use borrow.Author.Needs.{needs}
 use Rattle.segments.proofs.projection.projection_ramp.Statement.{statement}
 use Rattle.segments.proofs.projection.projection_ramp.Tie as tie
@@ -11,13 +15,17 @@ projection-length-requires : tie.Need-projection-length-requires
 projection-length-requires c κs = search needs
 
 row-index-requires : tie.Need-row-index-requires
-row-index-requires c κs = ?
+row-index-requires c κs = projection-few _ _ _ _ (c .before .pre .1)
 
 beside-requires : tie.Need-beside-requires
-beside-requires c κs = ?
+beside-requires c κs = let p = c .before .before .pre in
+    let l = c .before .projection-length .ensures in
+    let r = projection-row _ _ _ _ _ _ (p .1) (l .0) (c .row-index .ensures) in
+    (p .0, l .0, l .1, r .first, r .last, p .2)
 
 returns : tie.Need-returns
-returns c = ?
+unfolding projection
+returns c = (rw (← c .before .before .projection-length .ensures .0, ← c .before .row-index .ensures) (c .beside .ensures .0), c .beside .ensures .1)
 
 pub projection-ramp-spec : {M : Type 1} → statement M
 projection-ramp-spec =

@@ -1,9 +1,21 @@
+use Rattle.segments.proofs.Stretches.{Weighed, weighed}
+use Rattle.segments.specs.declared.ramps.Ramp.{Ramp}
+use Rattle.segments.specs.Ramps.{RampIn}
+use Prim.Native.Nat.{ℕ, _+_, _-_, _*_, _≤_}
+use Rattle.segments.specs.Ramps.{readRamp}
+use Rattle.rounding.proofs.Ramps.{reading-most}
+use Rattle.rounding.specs.Ramp.{reading}
+use native.Mathlib.Nat.{mul-le-mul}
+use native.Mathlib.Omega.{arith}
 use borrow.Author.Needs.{needs}
 use Rattle.segments.proofs.ramps.reading_in.Statement.{statement}
 use Rattle.segments.proofs.ramps.reading_in.Tie as tie
 use Rattle.segments.proofs.ramps.reading_in.Reads as reads
 use Rattle.segments.proofs.ramps.reading_in.Lts as lts
 use Rattle.rounding.proofs.ceil_div.Reads as ceil-div-reads
+
+sizes : (c : tie.Start) → Weighed (c .args .ramp) (c .args .x)
+sizes c = weighed (c .args .ramp) (c .args .x) (c .pre .0) (c .pre .1)
 
 add-along : tie.Need-add-along
 add-along c = search needs
@@ -12,19 +24,20 @@ sub-left : tie.Need-sub-left
 sub-left c = search needs
 
 mul-ceil-div : tie.Need-mul-ceil-div
-mul-ceil-div c = ?
+mul-ceil-div c = omega (arith, sizes (c .before .before .before) .from)
 
 mul-ceil-div-2 : tie.Need-mul-ceil-div-2
-mul-ceil-div-2 c = ?
+mul-ceil-div-2 c = omega (arith, sizes (c .before .before .before .before) .to)
 
 add-ceil-div : tie.Need-add-ceil-div
-add-ceil-div c = ?
+add-ceil-div c = omega (arith, sizes (c .before .before .before .before) .from, sizes (c .before .before .before .before) .to)
 
 ceil-div-requires : tie.Need-ceil-div-requires
 ceil-div-requires c κs = search needs
 
 returns : tie.Need-returns
-returns c = ?
+unfolding readRamp reading
+returns c = let s = c .before .before .before .before .before in (c .ceil-div .ensures, rw (c .ceil-div .ensures) (sizes s .most))
 
 pub reading-in-spec : {M : Type 1} → statement M
 reading-in-spec =

@@ -1,0 +1,44 @@
+-- A ramp made of five numbers is the stretch's, where its loads are the stretch's break loads.
+use Prim.Native.Nat.{ℕ, _+_, _-_, _*_, _≤_}
+use mathlib.Core.Path.{_≡_, refl}
+use Rattle.rounding.specs.Load.{Load, breakLoad}
+use Rattle.rounding.specs.Ramp.{reading}
+use Rattle.rounding.specs.Up.{ceilDiv, roundedUp}
+use Rattle.rounding.proofs.Ramps.{reading-most}
+use native.Mathlib.Nat.{mul-le-mul}
+use native.Mathlib.Omega.{arith}
+use Rattle.standard.specs.Stretch.{Stretch, noLoad}
+use Rattle.segments.specs.Ramps.{rampOf, RampIn}
+use Rattle.segments.specs.declared.ramps.Ramp.{Ramp}
+
+abbrev pub made : ℕ → ℕ → ℕ → ℕ → ℕ → Ramp
+made x k f a b = record { extent = x; skip = k; full = f; from = a; to = b }
+
+pub made-is :
+    (x k f a b : ℕ) (from to : Load) → a ≡ breakLoad 1 from → b ≡ breakLoad 1 to
+    → made x k f a b ≡ rampOf (record { extent = x; skip = k; full = f; from = from; to = to })
+unfolding rampOf
+made-is x k f a b from to p q = rw (p, q)
+
+pub made-in : (x k f a b : ℕ) → 1 ≤ x → k + x ≤ f → f ≤ 400000 → a ≤ 14400000 → b ≤ 14400000 → RampIn (made x k f a b)
+made-in x k f a b p q r s t = record { some = p; inside = q; full = r; from = s; to = t }
+
+pub no-load : 0 ≡ breakLoad 1 noLoad
+unfolding breakLoad roundedUp ceilDiv
+no-load = refl
+
+-- the two products of a reading, and that a reading is no larger than its break loads may be
+pub record Weighed (r : Ramp) (x : ℕ) : Type 0 where
+  pub from : r .from * (r .full - (r .skip + x)) ≤ 5760000000000
+  pub to : r .to * (r .skip + x) ≤ 5760000000000
+  pub most : reading (r .from) (r .to) (r .full) (r .skip + x) ≤ 14400000
+
+pub weighed : (r : Ramp) (x : ℕ) → RampIn r → x ≤ r .extent → Weighed r x
+weighed r x h p =
+    let along : r .skip + x ≤ 400000 = omega (arith, h .inside, h .full) in
+    let left : r .full - (r .skip + x) ≤ 400000 = omega (arith, h .full) in
+    record {
+      from = mul-le-mul (h .from) left;
+      to = mul-le-mul (h .to) along;
+      most = reading-most (r .from) (r .to) (r .full) (omega (arith, h .some, h .inside)) (r .skip + x) 14400000 (omega (arith, h .inside)) (h .from) (h .to);
+    }
