@@ -1,4 +1,5 @@
 pub mod Abutting
+pub mod Answers
 pub mod Arrangements
 pub mod Bounds
 pub mod Coefficients

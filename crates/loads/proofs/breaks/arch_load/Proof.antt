@@ -9,10 +9,6 @@ use native.Mathlib.Omega.{arith}
 use borrow.Author.Needs.{needs}
 use Rattle.loads.proofs.breaks.arch_load.Statement.{statement}
 use Rattle.loads.proofs.breaks.arch_load.Tie as tie
-use Rattle.loads.proofs.breaks.arch_load.Reads as reads
-use Rattle.loads.proofs.breaks.arch_load.Lts as lts
-use Rattle.loads.proofs.breaks.load_up.Reads as load-up-reads
-use Rattle.loads.proofs.coefficients.arch_over_span.Reads as arch-over-span-reads
 
 arch-over-span-requires : tie.Need-arch-over-span-requires
 arch-over-span-requires c κs = search needs

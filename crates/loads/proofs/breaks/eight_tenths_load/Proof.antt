@@ -5,9 +5,6 @@ use native.Mathlib.Omega.{arith}
 use borrow.Author.Needs.{needs}
 use Rattle.loads.proofs.breaks.eight_tenths_load.Statement.{statement}
 use Rattle.loads.proofs.breaks.eight_tenths_load.Tie as tie
-use Rattle.loads.proofs.breaks.eight_tenths_load.Reads as reads
-use Rattle.loads.proofs.breaks.eight_tenths_load.Lts as lts
-use Rattle.loads.proofs.breaks.load_up.Reads as load-up-reads
 
 load-up-requires : tie.Need-load-up-requires
 load-up-requires c κs = search needs

@@ -3,9 +3,6 @@ use native.Mathlib.Omega.{arith}
 use borrow.Author.Needs.{needs}
 use Rattle.loads.proofs.breaks.load_up.Statement.{statement}
 use Rattle.loads.proofs.breaks.load_up.Tie as tie
-use Rattle.loads.proofs.breaks.load_up.Reads as reads
-use Rattle.loads.proofs.breaks.load_up.Lts as lts
-use Rattle.loads.proofs.breaks.up.Reads as up-reads
 
 mul-up : tie.Need-mul-up
 mul-up c = omega (arith, products _ _ _ _ (c .pre) .two)

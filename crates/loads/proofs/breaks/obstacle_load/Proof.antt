@@ -8,10 +8,6 @@ use native.Mathlib.Omega.{arith}
 use borrow.Author.Needs.{needs}
 use Rattle.loads.proofs.breaks.obstacle_load.Statement.{statement}
 use Rattle.loads.proofs.breaks.obstacle_load.Tie as tie
-use Rattle.loads.proofs.breaks.obstacle_load.Reads as reads
-use Rattle.loads.proofs.breaks.obstacle_load.Lts as lts
-use Rattle.loads.proofs.breaks.up.Reads as up-reads
-use Rattle.loads.proofs.coefficients.obstacle_over_ground.Reads as obstacle-over-ground-reads
 
 small : (c : tie.After-obstacle-over-ground) → c .obstacle-over-ground .result ≤ 500000
 small c = omega (arith, c .before .pre .1 .sk .high)

@@ -7,10 +7,6 @@ use native.Mathlib.Omega.{arith}
 use borrow.Author.Needs.{needs}
 use Rattle.loads.proofs.breaks.slope_load.Statement.{statement}
 use Rattle.loads.proofs.breaks.slope_load.Tie as tie
-use Rattle.loads.proofs.breaks.slope_load.Reads as reads
-use Rattle.loads.proofs.breaks.slope_load.Lts as lts
-use Rattle.loads.proofs.breaks.load_up.Reads as load-up-reads
-use Rattle.loads.proofs.coefficients.slope_over_375.Reads as slope-over-375-reads
 
 slope-over-375-requires : tie.Need-slope-over-375-requires
 slope-over-375-requires c κs = search needs

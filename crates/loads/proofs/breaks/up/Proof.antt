@@ -3,9 +3,6 @@ use native.Mathlib.Omega.{arith}
 use borrow.Author.Needs.{needs}
 use Rattle.loads.proofs.breaks.up.Statement.{statement}
 use Rattle.loads.proofs.breaks.up.Tie as tie
-use Rattle.loads.proofs.breaks.up.Reads as reads
-use Rattle.loads.proofs.breaks.up.Lts as lts
-use Rattle.rounding.proofs.ceil_div.Reads as ceil-div-reads
 
 mul-ceil-div : tie.Need-mul-ceil-div
 mul-ceil-div c = search needs

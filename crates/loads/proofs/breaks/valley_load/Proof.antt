@@ -6,10 +6,6 @@ use native.Mathlib.Omega.{arith}
 use borrow.Author.Needs.{needs}
 use Rattle.loads.proofs.breaks.valley_load.Statement.{statement}
 use Rattle.loads.proofs.breaks.valley_load.Tie as tie
-use Rattle.loads.proofs.breaks.valley_load.Reads as reads
-use Rattle.loads.proofs.breaks.valley_load.Lts as lts
-use Rattle.loads.proofs.breaks.load_up.Reads as load-up-reads
-use Rattle.loads.proofs.coefficients.valley_over_750.Reads as valley-over-750-reads
 
 valley-over-750-requires : tie.Need-valley-over-750-requires
 valley-over-750-requires c κs = search needs

@@ -10,12 +10,6 @@ use native.Mathlib.Omega.{arith}
 use borrow.Author.Needs.{needs}
 use Rattle.loads.proofs.breaks.wall_load.Statement.{statement}
 use Rattle.loads.proofs.breaks.wall_load.Tie as tie
-use Rattle.loads.proofs.breaks.wall_load.Reads as reads
-use Rattle.loads.proofs.breaks.wall_load.Lts as lts
-use Rattle.loads.proofs.breaks.load_up.Reads as load-up-reads
-use Rattle.loads.proofs.breaks.up.Reads as up-reads
-use Rattle.loads.proofs.coefficients.slide_over_length.Reads as slide-over-length-reads
-use Rattle.loads.proofs.coefficients.wind_over_depth.Reads as wind-over-depth-reads
 
 wind-fits : (c : tie.After-wind-over-depth) → c .wind-over-depth .result * c .before .args .factor ≤ 7200000 * (200 * c .before .args .h * 1000000)
 wind-fits c = wind-most _ (c .before .args .h) (c .before .args .factor) (c .before .args .sk) (c .before .pre .7) (c .wind-over-depth .ensures .1)

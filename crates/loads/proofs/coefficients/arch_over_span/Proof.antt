@@ -5,9 +5,6 @@ use native.Mathlib.Omega.{arith}
 use borrow.Author.Needs.{needs}
 use Rattle.loads.proofs.coefficients.arch_over_span.Statement.{statement}
 use Rattle.loads.proofs.coefficients.arch_over_span.Tie as tie
-use Rattle.loads.proofs.coefficients.arch_over_span.Reads as reads
-use Rattle.loads.proofs.coefficients.arch_over_span.Lts as lts
-use Rattle.loads.proofs.limits.least.Reads as least-reads
 
 cast-least : tie.Need-cast-least
 cast-least c = search needs

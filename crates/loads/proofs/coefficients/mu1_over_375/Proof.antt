@@ -3,8 +3,6 @@ use native.Mathlib.Omega.{arith}
 use borrow.Author.Needs.{needs}
 use Rattle.loads.proofs.coefficients.mu1_over_375.Statement.{statement}
 use Rattle.loads.proofs.coefficients.mu1_over_375.Tie as tie
-use Rattle.loads.proofs.coefficients.mu1_over_375.Reads as reads
-use Rattle.loads.proofs.coefficients.mu1_over_375.Lts as lts
 
 sub-result : tie.Need-sub-result
 sub-result c = search needs

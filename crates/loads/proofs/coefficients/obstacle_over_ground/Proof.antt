@@ -3,10 +3,6 @@ use native.Mathlib.Omega.{arith}
 use borrow.Author.Needs.{needs}
 use Rattle.loads.proofs.coefficients.obstacle_over_ground.Statement.{statement}
 use Rattle.loads.proofs.coefficients.obstacle_over_ground.Tie as tie
-use Rattle.loads.proofs.coefficients.obstacle_over_ground.Reads as reads
-use Rattle.loads.proofs.coefficients.obstacle_over_ground.Lts as lts
-use Rattle.loads.proofs.limits.least.Reads as least-reads
-use Rattle.loads.proofs.limits.most.Reads as most-reads
 
 mul-least : tie.Need-mul-least
 mul-least c = search needs

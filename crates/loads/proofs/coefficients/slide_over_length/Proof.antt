@@ -5,9 +5,6 @@ use native.Mathlib.Omega.{arith}
 use borrow.Author.Needs.{needs}
 use Rattle.loads.proofs.coefficients.slide_over_length.Statement.{statement}
 use Rattle.loads.proofs.coefficients.slide_over_length.Tie as tie
-use Rattle.loads.proofs.coefficients.slide_over_length.Reads as reads
-use Rattle.loads.proofs.coefficients.slide_over_length.Lts as lts
-use Rattle.loads.proofs.coefficients.slope_over_375.Reads as slope-over-375-reads
 
 returns : tie.Need-returns
 unfolding slideNum

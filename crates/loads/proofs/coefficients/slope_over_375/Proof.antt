@@ -3,9 +3,6 @@ use native.Mathlib.Omega.{arith}
 use borrow.Author.Needs.{needs}
 use Rattle.loads.proofs.coefficients.slope_over_375.Statement.{statement}
 use Rattle.loads.proofs.coefficients.slope_over_375.Tie as tie
-use Rattle.loads.proofs.coefficients.slope_over_375.Reads as reads
-use Rattle.loads.proofs.coefficients.slope_over_375.Lts as lts
-use Rattle.loads.proofs.coefficients.mu1_over_375.Reads as mu1-over-375-reads
 
 returns : tie.Need-returns
 unfolding slopeNum mu1Num

@@ -3,9 +3,6 @@ use native.Mathlib.Omega.{arith}
 use borrow.Author.Needs.{needs}
 use Rattle.loads.proofs.coefficients.valley_over_750.Statement.{statement}
 use Rattle.loads.proofs.coefficients.valley_over_750.Tie as tie
-use Rattle.loads.proofs.coefficients.valley_over_750.Reads as reads
-use Rattle.loads.proofs.coefficients.valley_over_750.Lts as lts
-use Rattle.loads.proofs.limits.least.Reads as least-reads
 
 add-least : tie.Need-add-least
 add-least c = search needs

@@ -7,10 +7,6 @@ use native.Mathlib.Omega.{arith}
 use borrow.Author.Needs.{needs}
 use Rattle.loads.proofs.coefficients.wind_over_depth.Statement.{statement}
 use Rattle.loads.proofs.coefficients.wind_over_depth.Tie as tie
-use Rattle.loads.proofs.coefficients.wind_over_depth.Reads as reads
-use Rattle.loads.proofs.coefficients.wind_over_depth.Lts as lts
-use Rattle.loads.proofs.limits.least.Reads as least-reads
-use Rattle.loads.proofs.limits.most.Reads as most-reads
 
 mul-least : tie.Need-mul-least
 mul-least c = search needs

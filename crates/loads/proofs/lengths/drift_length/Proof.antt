@@ -4,10 +4,6 @@ use native.Mathlib.Omega.{arith}
 use borrow.Author.Needs.{needs}
 use Rattle.loads.proofs.lengths.drift_length.Statement.{statement}
 use Rattle.loads.proofs.lengths.drift_length.Tie as tie
-use Rattle.loads.proofs.lengths.drift_length.Reads as reads
-use Rattle.loads.proofs.lengths.drift_length.Lts as lts
-use Rattle.loads.proofs.limits.least.Reads as least-reads
-use Rattle.loads.proofs.limits.most.Reads as most-reads
 
 mul-least : tie.Need-mul-least
 mul-least c = search needs

@@ -7,9 +7,6 @@ use mathlib.Core.Path.{_≡_, sym, _∙_}
 use native.Mathlib.Omega.{arith}
 use Rattle.loads.proofs.lengths.least_width.Statement.{statement}
 use Rattle.loads.proofs.lengths.least_width.Tie as tie
-use Rattle.loads.proofs.lengths.least_width.Reads as reads
-use Rattle.loads.proofs.lengths.least_width.Lts as lts
-use Rattle.loads.proofs.lengths.wide_enough.Reads as wide-enough-reads
 
 abbrev Inv-loop : tie.InvT-loop
 Inv-loop rise span short₀ wide₀ short wide = (short < wide) × (wide ≤ span) × (wideEnough rise span short ≡ false) × (wideEnough rise span wide ≡ true)

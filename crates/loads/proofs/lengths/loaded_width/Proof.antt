@@ -4,9 +4,6 @@ use native.Mathlib.Omega.{arith}
 use borrow.Author.Needs.{needs}
 use Rattle.loads.proofs.lengths.loaded_width.Statement.{statement}
 use Rattle.loads.proofs.lengths.loaded_width.Tie as tie
-use Rattle.loads.proofs.lengths.loaded_width.Reads as reads
-use Rattle.loads.proofs.lengths.loaded_width.Lts as lts
-use Rattle.loads.proofs.lengths.least_width.Reads as least-width-reads
 
 mul-if1 : tie.Need-mul-if1
 mul-if1 c = omega (arith, product (c .pre .rise .high) (c .pre .rise .high))

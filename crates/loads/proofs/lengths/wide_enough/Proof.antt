@@ -5,8 +5,6 @@ use native.Mathlib.Omega.{arith}
 use borrow.Author.Needs.{needs}
 use Rattle.loads.proofs.lengths.wide_enough.Statement.{statement}
 use Rattle.loads.proofs.lengths.wide_enough.Tie as tie
-use Rattle.loads.proofs.lengths.wide_enough.Reads as reads
-use Rattle.loads.proofs.lengths.wide_enough.Lts as lts
 
 sizes : (c : tie.Start) → Squares (c .args .rise) (c .args .span) (c .args .ls)
 sizes c = squares (c .args .rise) (c .args .span) (c .args .ls) (c .pre .0) (c .pre .1) (c .pre .2)

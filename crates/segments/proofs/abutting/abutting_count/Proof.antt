@@ -4,9 +4,6 @@ use native.Mathlib.Omega.{arith}
 use borrow.Author.Needs.{needs}
 use Rattle.segments.proofs.abutting.abutting_count.Statement.{statement}
 use Rattle.segments.proofs.abutting.abutting_count.Tie as tie
-use Rattle.segments.proofs.abutting.abutting_count.Reads as reads
-use Rattle.segments.proofs.abutting.abutting_count.Lts as lts
-use Rattle.segments.proofs.abutting.abutting_length.Reads as abutting-length-reads
 
 returns : tie.Need-returns
 unfolding abuttingCount

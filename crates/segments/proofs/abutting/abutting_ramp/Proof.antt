@@ -7,13 +7,6 @@ use native.Mathlib.Omega.{arith}
 use borrow.Author.Needs.{needs}
 use Rattle.segments.proofs.abutting.abutting_ramp.Statement.{statement}
 use Rattle.segments.proofs.abutting.abutting_ramp.Tie as tie
-use Rattle.segments.proofs.abutting.abutting_ramp.Reads as reads
-use Rattle.segments.proofs.abutting.abutting_ramp.Lts as lts
-use Rattle.loads.proofs.eight_tenths_load.Reads as eight-tenths-load-reads
-use Rattle.loads.proofs.wall_load.Reads as wall-load-reads
-use Rattle.loads.proofs.least.Reads as least-reads
-use Rattle.segments.proofs.abutting.abutting_length.Reads as abutting-length-reads
-use Rattle.segments.proofs.ramps.even.Reads as even-reads
 
 past : (c : tie.Else2) → c .before .abutting-length .result < c .before .before .before .before .args .b2
 past c = rw (c .before .abutting-length .ensures .0) (abutting-past _ _ _ _ _ (c .before .before .before .before .pre .2) (c .before .before .if1 .left) (c .if2 .left))

@@ -2,8 +2,6 @@ use borrow.Author.Tests.{le-leb, lt-leb}
 use borrow.Author.Needs.{needs}
 use Rattle.segments.proofs.codes.base_code.Statement.{statement}
 use Rattle.segments.proofs.codes.base_code.Tie as tie
-use Rattle.segments.proofs.codes.base_code.Reads as reads
-use Rattle.segments.proofs.codes.base_code.Lts as lts
 
 sub-result : tie.Need-sub-result
 sub-result c = search needs

@@ -3,8 +3,6 @@ use borrow.Author.Tests.{le-leb, lt-leb}
 use borrow.Author.Needs.{needs}
 use Rattle.segments.proofs.codes.exceptional_factor.Statement.{statement}
 use Rattle.segments.proofs.codes.exceptional_factor.Tie as tie
-use Rattle.segments.proofs.codes.exceptional_factor.Reads as reads
-use Rattle.segments.proofs.codes.exceptional_factor.Lts as lts
 
 cast-result : tie.Need-cast-result
 cast-result c = search needs

@@ -4,9 +4,6 @@ use native.Mathlib.Omega.{arith}
 use borrow.Author.Needs.{needs}
 use Rattle.segments.proofs.codes.factor.Statement.{statement}
 use Rattle.segments.proofs.codes.factor.Tie as tie
-use Rattle.segments.proofs.codes.factor.Reads as reads
-use Rattle.segments.proofs.codes.factor.Lts as lts
-use Rattle.segments.proofs.codes.exceptional_factor.Reads as exceptional-factor-reads
 
 cast-result : tie.Need-cast-result
 cast-result c = search needs

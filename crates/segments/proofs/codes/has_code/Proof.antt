@@ -3,10 +3,6 @@ use borrow.Author.Tests.{le-leb, lt-leb}
 use borrow.Author.Needs.{needs}
 use Rattle.segments.proofs.codes.has_code.Statement.{statement}
 use Rattle.segments.proofs.codes.has_code.Tie as tie
-use Rattle.segments.proofs.codes.has_code.Reads as reads
-use Rattle.segments.proofs.codes.has_code.Lts as lts
-use Rattle.segments.proofs.codes.is_exceptional.Reads as is-exceptional-reads
-use Rattle.segments.proofs.codes.is_persistent.Reads as is-persistent-reads
 
 is-exceptional-requires : tie.Need-is-exceptional-requires
 is-exceptional-requires c κs = search needs

@@ -2,8 +2,6 @@ use Rattle.standard.specs.Arrangements.{exceptional}
 use borrow.Author.Needs.{needs}
 use Rattle.segments.proofs.codes.is_exceptional.Statement.{statement}
 use Rattle.segments.proofs.codes.is_exceptional.Tie as tie
-use Rattle.segments.proofs.codes.is_exceptional.Reads as reads
-use Rattle.segments.proofs.codes.is_exceptional.Lts as lts
 
 enum-told : tie.Need-enum-told
 enum-told c = search needs

@@ -2,8 +2,6 @@ use Rattle.standard.specs.Arrangements.{persistent}
 use borrow.Author.Needs.{needs}
 use Rattle.segments.proofs.codes.is_persistent.Statement.{statement}
 use Rattle.segments.proofs.codes.is_persistent.Tie as tie
-use Rattle.segments.proofs.codes.is_persistent.Reads as reads
-use Rattle.segments.proofs.codes.is_persistent.Lts as lts
 
 enum-told : tie.Need-enum-told
 enum-told c = search needs

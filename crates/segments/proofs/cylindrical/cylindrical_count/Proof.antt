@@ -4,9 +4,6 @@ use native.Mathlib.Omega.{arith}
 use borrow.Author.Needs.{needs}
 use Rattle.segments.proofs.cylindrical.cylindrical_count.Statement.{statement}
 use Rattle.segments.proofs.cylindrical.cylindrical_count.Tie as tie
-use Rattle.segments.proofs.cylindrical.cylindrical_count.Reads as reads
-use Rattle.segments.proofs.cylindrical.cylindrical_count.Lts as lts
-use Rattle.loads.proofs.loaded_width.Reads as loaded-width-reads
 
 loaded-width-requires : tie.Need-loaded-width-requires
 loaded-width-requires c κs = search needs

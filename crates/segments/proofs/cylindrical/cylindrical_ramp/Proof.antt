@@ -5,12 +5,6 @@ use native.Mathlib.Omega.{arith}
 use borrow.Author.Needs.{needs}
 use Rattle.segments.proofs.cylindrical.cylindrical_ramp.Statement.{statement}
 use Rattle.segments.proofs.cylindrical.cylindrical_ramp.Tie as tie
-use Rattle.segments.proofs.cylindrical.cylindrical_ramp.Reads as reads
-use Rattle.segments.proofs.cylindrical.cylindrical_ramp.Lts as lts
-use Rattle.loads.proofs.loaded_width.Reads as loaded-width-reads
-use Rattle.segments.proofs.cylindrical.drift_arch.Reads as drift-arch-reads
-use Rattle.segments.proofs.cylindrical.even_arch.Reads as even-arch-reads
-use Rattle.segments.proofs.cylindrical.row_index.Reads as row-index-reads
 
 row : (c : tie.After-row-index) → ArchRow (c .before .before .args .undrifted) (c .before .loaded-width .result) (c .before .before .args .span) (c .before .before .args .i) (c .row-index .result)
 row c = arch-row _ _ _ _ _ _ (c .before .before .pre .2) (c .before .loaded-width .ensures .0) (c .row-index .ensures)

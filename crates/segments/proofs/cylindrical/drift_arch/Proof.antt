@@ -7,11 +7,6 @@ use native.Mathlib.Omega.{arith}
 use borrow.Author.Needs.{needs}
 use Rattle.segments.proofs.cylindrical.drift_arch.Statement.{statement}
 use Rattle.segments.proofs.cylindrical.drift_arch.Tie as tie
-use Rattle.segments.proofs.cylindrical.drift_arch.Reads as reads
-use Rattle.segments.proofs.cylindrical.drift_arch.Lts as lts
-use Rattle.loads.proofs.arch_load.Reads as arch-load-reads
-use Rattle.segments.proofs.ramps.even.Reads as even-reads
-use Rattle.segments.proofs.ramps.whole.Reads as whole-reads
 
 arch-load-requires : tie.Need-arch-load-requires
 arch-load-requires c κs = search needs

@@ -7,10 +7,6 @@ use native.Mathlib.Omega.{arith}
 use borrow.Author.Needs.{needs}
 use Rattle.segments.proofs.cylindrical.even_arch.Statement.{statement}
 use Rattle.segments.proofs.cylindrical.even_arch.Tie as tie
-use Rattle.segments.proofs.cylindrical.even_arch.Reads as reads
-use Rattle.segments.proofs.cylindrical.even_arch.Lts as lts
-use Rattle.loads.proofs.eight_tenths_load.Reads as eight-tenths-load-reads
-use Rattle.segments.proofs.ramps.even.Reads as even-reads
 
 eight-tenths-load-requires : tie.Need-eight-tenths-load-requires
 eight-tenths-load-requires c κs = search needs

@@ -2,8 +2,6 @@ use Rattle.segments.proofs.Rows.{row-first, row-second}
 use borrow.Author.Needs.{needs}
 use Rattle.segments.proofs.cylindrical.row_index.Statement.{statement}
 use Rattle.segments.proofs.cylindrical.row_index.Tie as tie
-use Rattle.segments.proofs.cylindrical.row_index.Reads as reads
-use Rattle.segments.proofs.cylindrical.row_index.Lts as lts
 
 add-result : tie.Need-add-result
 add-result c = search needs

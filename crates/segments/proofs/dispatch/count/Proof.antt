@@ -4,11 +4,6 @@ use native.Mathlib.Omega.{arith}
 use borrow.Author.Needs.{needs}
 use Rattle.segments.proofs.dispatch.count.Statement.{statement}
 use Rattle.segments.proofs.dispatch.count.Tie as tie
-use Rattle.segments.proofs.dispatch.count.Reads as reads
-use Rattle.segments.proofs.dispatch.count.Lts as lts
-use Rattle.segments.proofs.abutting.abutting_count.Reads as abutting-count-reads
-use Rattle.segments.proofs.cylindrical.cylindrical_count.Reads as cylindrical-count-reads
-use Rattle.segments.proofs.projection.projection_count.Reads as projection-count-reads
 
 enum-told : tie.Need-enum-told
 enum-told c = search needs

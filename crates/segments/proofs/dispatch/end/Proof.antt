@@ -3,9 +3,6 @@ use Rattle.standard.specs.Arrangements.{endIn}
 use borrow.Author.Needs.{needs}
 use Rattle.segments.proofs.dispatch.end.Statement.{statement}
 use Rattle.segments.proofs.dispatch.end.Tie as tie
-use Rattle.segments.proofs.dispatch.end.Reads as reads
-use Rattle.segments.proofs.dispatch.end.Lts as lts
-use Rattle.segments.proofs.multi_span.widths_of.Reads as widths-of-reads
 
 enum-known-shape : tie.Need-enum-known-shape
 enum-known-shape c = search needs

@@ -6,14 +6,6 @@ use native.Mathlib.Omega.{arith}
 use borrow.Author.Needs.{needs}
 use Rattle.segments.proofs.dispatch.ramp_at.Statement.{statement}
 use Rattle.segments.proofs.dispatch.ramp_at.Tie as tie
-use Rattle.segments.proofs.dispatch.ramp_at.Reads as reads
-use Rattle.segments.proofs.dispatch.ramp_at.Lts as lts
-use Rattle.segments.proofs.abutting.abutting_ramp.Reads as abutting-ramp-reads
-use Rattle.segments.proofs.cylindrical.cylindrical_ramp.Reads as cylindrical-ramp-reads
-use Rattle.segments.proofs.monopitch.slope_ramp.Reads as slope-ramp-reads
-use Rattle.segments.proofs.multi_span.multi_span_ramp.Reads as multi-span-ramp-reads
-use Rattle.segments.proofs.pitched.pitched_ramp.Reads as pitched-ramp-reads
-use Rattle.segments.proofs.projection.projection_ramp.Reads as projection-ramp-reads
 
 enum-known-shape : tie.Need-enum-known-shape
 enum-known-shape c = search needs

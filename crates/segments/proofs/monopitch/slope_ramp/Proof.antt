@@ -4,10 +4,6 @@ use native.Mathlib.Omega.{arith}
 use borrow.Author.Needs.{needs}
 use Rattle.segments.proofs.monopitch.slope_ramp.Statement.{statement}
 use Rattle.segments.proofs.monopitch.slope_ramp.Tie as tie
-use Rattle.segments.proofs.monopitch.slope_ramp.Reads as reads
-use Rattle.segments.proofs.monopitch.slope_ramp.Lts as lts
-use Rattle.loads.proofs.slope_load.Reads as slope-load-reads
-use Rattle.segments.proofs.ramps.even.Reads as even-reads
 
 slope-load-requires : tie.Need-slope-load-requires
 slope-load-requires c κs = search needs

@@ -7,11 +7,6 @@ use native.Mathlib.Omega.{arith}
 use borrow.Author.Needs.{needs}
 use Rattle.segments.proofs.multi_span.multi_span_ramp.Statement.{statement}
 use Rattle.segments.proofs.multi_span.multi_span_ramp.Tie as tie
-use Rattle.segments.proofs.multi_span.multi_span_ramp.Reads as reads
-use Rattle.segments.proofs.multi_span.multi_span_ramp.Lts as lts
-use Rattle.segments.proofs.multi_span.from_load.Reads as from-load-reads
-use Rattle.segments.proofs.multi_span.slope_at.Reads as slope-at-reads
-use Rattle.segments.proofs.multi_span.to_load.Reads as to-load-reads
 
 slope-at-requires : tie.Need-slope-at-requires
 slope-at-requires c κs = search needs

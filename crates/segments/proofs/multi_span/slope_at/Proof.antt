@@ -4,8 +4,6 @@ use borrow.Author.Tests.{eq-eqb, ne-eqb}
 use borrow.Author.Needs.{needs}
 use Rattle.segments.proofs.multi_span.slope_at.Statement.{statement}
 use Rattle.segments.proofs.multi_span.slope_at.Tie as tie
-use Rattle.segments.proofs.multi_span.slope_at.Reads as reads
-use Rattle.segments.proofs.multi_span.slope_at.Lts as lts
 
 mul-span : tie.Need-mul-span
 mul-span c = search needs

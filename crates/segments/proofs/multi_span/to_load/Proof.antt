@@ -5,10 +5,6 @@ use native.Mathlib.Omega.{arith}
 use borrow.Author.Needs.{needs}
 use Rattle.segments.proofs.multi_span.to_load.Statement.{statement}
 use Rattle.segments.proofs.multi_span.to_load.Tie as tie
-use Rattle.segments.proofs.multi_span.to_load.Reads as reads
-use Rattle.segments.proofs.multi_span.to_load.Lts as lts
-use Rattle.segments.proofs.multi_span.own_load.Reads as own-load-reads
-use Rattle.segments.proofs.multi_span.valley_at.Reads as valley-at-reads
 
 add-if1 : tie.Need-add-if1
 add-if1 c = search needs

@@ -2,10 +2,6 @@ use Rattle.standard.specs.MultiSpan.{valleyLoad}
 use borrow.Author.Needs.{needs}
 use Rattle.segments.proofs.multi_span.valley_at.Statement.{statement}
 use Rattle.segments.proofs.multi_span.valley_at.Tie as tie
-use Rattle.segments.proofs.multi_span.valley_at.Reads as reads
-use Rattle.segments.proofs.multi_span.valley_at.Lts as lts
-use Rattle.loads.proofs.valley_load.Reads as valley-load-reads
-use Rattle.segments.proofs.multi_span.slope_at.Reads as slope-at-reads
 
 slope-at-requires : tie.Need-slope-at-requires
 slope-at-requires c κs = search needs

@@ -6,8 +6,6 @@ use mathlib.Core.Path.{_≡_, refl}
 use native.Mathlib.Omega.{arith}
 use Rattle.segments.proofs.multi_span.widths_of.Statement.{statement}
 use Rattle.segments.proofs.multi_span.widths_of.Tie as tie
-use Rattle.segments.proofs.multi_span.widths_of.Reads as reads
-use Rattle.segments.proofs.multi_span.widths_of.Lts as lts
 
 abbrev Inv-loop : tie.InvT-loop
 Inv-loop count spans sum₀ i₀ sum i = (i ≤ count) × (sum ≡ widths spans i) × (sum ≤ 8589934592 * i)

@@ -5,9 +5,6 @@ use native.Mathlib.Omega.{arith}
 use borrow.Author.Needs.{needs}
 use Rattle.segments.proofs.pitched.pitched_ramp.Statement.{statement}
 use Rattle.segments.proofs.pitched.pitched_ramp.Tie as tie
-use Rattle.segments.proofs.pitched.pitched_ramp.Reads as reads
-use Rattle.segments.proofs.pitched.pitched_ramp.Lts as lts
-use Rattle.segments.proofs.monopitch.slope_ramp.Reads as slope-ramp-reads
 
 slope-ramp-requires : tie.Need-slope-ramp-requires
 slope-ramp-requires c κs = search needs

@@ -8,13 +8,6 @@ use native.Mathlib.Omega.{arith}
 use borrow.Author.Needs.{needs}
 use Rattle.segments.proofs.projection.beside.Statement.{statement}
 use Rattle.segments.proofs.projection.beside.Tie as tie
-use Rattle.segments.proofs.projection.beside.Reads as reads
-use Rattle.segments.proofs.projection.beside.Lts as lts
-use Rattle.loads.proofs.eight_tenths_load.Reads as eight-tenths-load-reads
-use Rattle.loads.proofs.obstacle_load.Reads as obstacle-load-reads
-use Rattle.loads.proofs.least.Reads as least-reads
-use Rattle.loads.proofs.less.Reads as less-reads
-use Rattle.segments.proofs.ramps.even.Reads as even-reads
 
 past : (c : tie.At-match-rest) → c .before .before .args .ls < c .before .before .args .right
 past c =

@@ -2,8 +2,6 @@ use Rattle.segments.proofs.Rows.{if-less, if-not-less}
 use native.Mathlib.Omega.{arith}
 use Rattle.segments.proofs.projection.one_past.Statement.{statement}
 use Rattle.segments.proofs.projection.one_past.Tie as tie
-use Rattle.segments.proofs.projection.one_past.Reads as reads
-use Rattle.segments.proofs.projection.one_past.Lts as lts
 
 returns : tie.Need-returns
 returns c = (if-less _ _ 1 0 (c .if1 .taken), omega arith)

@@ -3,10 +3,6 @@ use native.Mathlib.Omega.{arith}
 use borrow.Author.Needs.{needs}
 use Rattle.segments.proofs.projection.projection_count.Statement.{statement}
 use Rattle.segments.proofs.projection.projection_count.Tie as tie
-use Rattle.segments.proofs.projection.projection_count.Reads as reads
-use Rattle.segments.proofs.projection.projection_count.Lts as lts
-use Rattle.segments.proofs.projection.one_past.Reads as one-past-reads
-use Rattle.segments.proofs.projection.projection_length.Reads as projection-length-reads
 
 projection-length-requires : tie.Need-projection-length-requires
 projection-length-requires c κs = search needs

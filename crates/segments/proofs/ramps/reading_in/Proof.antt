@@ -10,9 +10,6 @@ use native.Mathlib.Omega.{arith}
 use borrow.Author.Needs.{needs}
 use Rattle.segments.proofs.ramps.reading_in.Statement.{statement}
 use Rattle.segments.proofs.ramps.reading_in.Tie as tie
-use Rattle.segments.proofs.ramps.reading_in.Reads as reads
-use Rattle.segments.proofs.ramps.reading_in.Lts as lts
-use Rattle.rounding.proofs.ceil_div.Reads as ceil-div-reads
 
 sizes : (c : tie.Start) → Weighed (c .args .ramp) (c .args .x)
 sizes c = weighed (c .args .ramp) (c .args .x) (c .pre .0) (c .pre .1)

@@ -4,8 +4,6 @@ use mathlib.Core.Logic.{⊎-elim}
 use native.Mathlib.Omega.{arith}
 use Rattle.trials.proofs.stored.last_line.Statement.{statement}
 use Rattle.trials.proofs.stored.last_line.Tie as tie
-use Rattle.trials.proofs.stored.last_line.Reads as reads
-use Rattle.trials.proofs.stored.last_line.Lts as lts
 
 abbrev Inv-loop : tie.InvT-loop
 Inv-loop text start₀ next₀ start next = 1 ≤ next

@@ -1,0 +1,54 @@
+-- Four numbers at a place of a slice, and one segment more at the end of those written.
+use Prim.Native.Nat.{ℕ, zero, suc, _+_, _*_, _≤_}
+use mathlib.Core.Path.{_≡_, refl, sym, ap, _∙_}
+use mathlib.Core.List.{List, [], _∷_, _++_}
+use lib.ListN.{length, set, take, drop, length-append}
+use lib.Seq.{sets-eq, take-at, drop-append-add, drop-drop}
+use native.Mathlib.Numerals.{add-one}
+use native.Mathlib.Omega.{arith}
+use Rattle.segments.specs.Ramps.{rampOf, readRamp}
+use Rattle.segments.specs.declared.ramps.Ramp.{Ramp}
+use Rattle.standard.specs.Stretch.{Stretch, readIn, startOf, segment, segments}
+
+pub four :
+    (l : List ℕ) (i a b c d : ℕ) → i + 4 ≤ length l
+    → set (set (set (set l i a) (i + 1) b) (i + 2) c) (i + 3) d ≡ take i l ++ (a ∷ b ∷ c ∷ d ∷ []) ++ drop (i + 4) l
+four l i a b c d h =
+    let e₁ : i + 1 ≡ suc i = omega arith in
+    let e₂ : i + 2 ≡ suc (suc i) = omega arith in
+    let e₃ : i + 3 ≡ suc (suc (suc i)) = omega arith in
+    rw (e₁, e₂, e₃) (sets-eq (a ∷ b ∷ c ∷ d ∷ []) l i h)
+
+-- four numbers behind those done, of a slice that has its old contents behind them
+more :
+    (done old out four : List ℕ) (i : ℕ) → length done ≡ 4 * i → out ≡ done ++ drop (4 * i) old
+    → take (4 * i) out ++ four ++ drop (4 * i + 4) out ≡ done ++ four ++ drop (4 * (i + 1)) old
+more done old out four i len e =
+    let e₁ : take (4 * i) (done ++ drop (4 * i) old) ≡ done = take-at done (drop (4 * i) old) (4 * i) len in
+    let e₂ : drop (length done + 4) (done ++ drop (4 * i) old) ≡ drop (4 * i + 4) old =
+    drop-append-add done (drop (4 * i) old) 4 ∙ drop-drop 4 (4 * i) old in
+    let e₃ : drop (4 * i + 4) (done ++ drop (4 * i) old) ≡ drop (4 * i + 4) old = rw len at e₂ in
+    let e₄ : 4 * (i + 1) ≡ 4 * i + 4 = omega arith in
+    rw (e, e₁, e₃, e₄)
+
+module _ (S : ℕ → Stretch) where
+  segments-length : (n : ℕ) → length (segments S n) ≡ 4 * n
+  unfolding segments segment
+  segments-length zero = refl
+  segments-length (suc n) = simp length-append (omega (arith, segments-length n))
+
+  pub one-more :
+      (old out four : List ℕ) (i : ℕ) → four ≡ segment S i → out ≡ segments S i ++ drop (4 * i) old
+      → take (4 * i) out ++ four ++ drop (4 * i + 4) out ≡ segments S (i + 1) ++ drop (4 * (i + 1)) old
+  unfolding segments
+  one-more old out four i f e = more (segments S i) old out four i (segments-length i) e ∙ rw (add-one i, f)
+
+  -- a segment from its ramp and its start
+  module _ (i start : ℕ) (r : Ramp) (es : start ≡ startOf S i) (er : r ≡ rampOf (S i)) where
+    pub segment-is : (a b : ℕ) → a ≡ readRamp r 0 → b ≡ readRamp r (r .extent) → start ∷ (start + r .extent) ∷ a ∷ b ∷ [] ≡ segment S i
+    unfolding segment readIn readRamp rampOf
+    segment-is a b p q = rw (p, q, es, er)
+
+    pub next-start : start + r .extent ≡ startOf S (suc i)
+    unfolding startOf rampOf
+    next-start = rw (es, er)

@@ -1,0 +1,110 @@
+// The arrangements of a roof under snow: the segments of one code, written into a slice that the caller lends.
+ghost use mathlib.Core.List.{_∷_, [], _++_};
+ghost use mathlib.Core.Path.{_≡_};
+ghost use lib.ListN.{length, take, drop};
+ghost use Prim.Native.Nat.{suc, _+_, _*_, _≤_, _<_};
+ghost use Rattle.arrangement.specs.Arrangement.{madeMeans, contents, numbers};
+ghost use Rattle.figures.specs.Bounds.{ShapeIn};
+ghost use Rattle.loads.specs.Sizes.{Ground};
+ghost use Rattle.standard.specs.Answers.{makeAnswer};
+ghost use Rattle.standard.specs.Arrangements.{countIn, stretchIn};
+ghost use Rattle.standard.specs.Bounds.{NationalIn};
+ghost use Rattle.standard.specs.Coefficients.{recommendedFigures};
+ghost use Rattle.standard.specs.Stretch.{startOf, segment, segments};
+use figures::Roof;
+use figures::Site;
+use standard::National;
+
+// The refusal of a slice, by document 01's number.
+const SLICE: u8 = 11;
+
+// What the maker answers: how many segments it wrote, or the number of the first broken rule.
+pub enum Made {
+    Segments(usize),
+    Refused(u8),
+}
+
+// A segment: start and end in quarter millimetres, the loads there in N/m².
+pub struct Segment {
+    pub start: u32,
+    pub end: u32,
+    pub from: u32,
+    pub to: u32,
+}
+
+// The segment at an index, which starts where the one before ends.
+fn segment_at(
+    national: National,
+    roof: Roof,
+    code: u8,
+    factor: u64,
+    sk: u64,
+    i: usize,
+    start: u32,
+) -> Segment
+    requires { ⌜ NationalIn national × ShapeIn (roof .shape) (roof .spans) × Ground factor sk × (i < countIn national (roof .shape) code) × (start ≡ startOf (stretchIn national (roof .shape) (roof .spans) factor sk code) i) × (start ≤ 12400000) ⌝ }
+    ensures { λ r. ⌜ (numbers r ≡ segment (stretchIn national (roof .shape) (roof .spans) factor sk code) i) × (r .end ≡ startOf (stretchIn national (roof .shape) (roof .spans) factor sk code) (suc i)) × (r .end ≤ start + 400000) ⌝ }
+{
+    let ramp = segments::ramp_at(national, roof, code, factor, sk, i);
+    let from = segments::reading_in(ramp, 0);
+    let to = segments::reading_in(ramp, ramp.extent);
+    Segment {
+        start: start,
+        end: start + ramp.extent as u32,
+        from: from as u32,
+        to: to as u32,
+    }
+}
+
+// Puts a segment's four numbers at a place of the slice.
+fn put(out: &mut [u32], at: usize, segment: Segment)
+    requires { ⌜ at + 4 ≤ length (now out) ⌝ }
+    ensures { λ _. ⌜ now (out .exit) ≡ take at (now (out .entry)) ++ numbers segment ++ drop (at + 4) (now (out .entry)) ⌝ }
+{
+    out[at] = segment.start;
+    out[at + 1] = segment.end;
+    out[at + 2] = segment.from;
+    out[at + 3] = segment.to;
+}
+
+// Writes the n segments, one after the other.
+fn write(national: National, roof: Roof, code: u8, factor: u64, sk: u64, n: usize, out: &mut [u32])
+    requires { ⌜ NationalIn national × ShapeIn (roof .shape) (roof .spans) × Ground factor sk × (n ≡ countIn national (roof .shape) code) × (n ≤ 32) × (4 * n ≤ length (now out)) ⌝ }
+    ensures { λ _. ⌜ now (out .exit) ≡ segments (stretchIn national (roof .shape) (roof .spans) factor sk code) n ++ drop (4 * n) (now (out .entry)) ⌝ }
+{
+    let mut start: u32 = 0;
+    let mut i = 0;
+    while i < n {
+        let segment = segment_at(national, roof, code, factor, sk, i, start);
+        put(out, 4 * i, segment);
+        start = segment.end;
+        i += 1;
+    }
+}
+
+// Makes the arrangement of a code: its segments at the front of the slice, four numbers each. A refusal alters nothing.
+pub fn make(site: Site, roof: Roof, code: u8, out: &mut [u32]) -> Made
+    ensures answer { λ r. ⌜ madeMeans r ≡ makeAnswer recommendedFigures site roof code (length (now (out .entry))) ⌝ }
+    ensures written { λ r. ⌜ now (out .exit) ≡ contents recommendedFigures site roof code r (now (out .entry)) ⌝ }
+{
+    let number = segments::refusal(site, roof, code);
+    if number != 0 {
+        return Made::Refused(number);
+    }
+    let national = standard::recommended();
+    let base = segments::base_code(code);
+    let n = segments::count(national, roof, base);
+    if out.len() < 4 * n {
+        return Made::Refused(SLICE);
+    }
+    write(
+        national,
+        roof,
+        base,
+        segments::factor(site, code),
+        site.sk as u64,
+        n,
+        out,
+    );
+    Made::Segments(n)
+}
