@@ -4,8 +4,10 @@ pub mod Arrangements
 pub mod Bounds
 pub mod Coefficients
 pub mod Cylindrical
+pub mod Forces
 pub mod Monopitch
 pub mod MultiSpan
 pub mod Pitched
 pub mod Projection
+pub mod Sine
 pub mod Stretch
