@@ -1,6 +1,6 @@
 -- Four numbers at a place of a slice, and one segment more at the end of those written.
 use Prim.Native.Nat.{ℕ, zero, suc, _+_, _*_, _≤_}
-use mathlib.Core.Path.{_≡_, refl, sym, ap, _∙_}
+use mathlib.Core.Path.{_≡_, refl, _∙_}
 use mathlib.Core.List.{List, [], _∷_, _++_}
 use lib.ListN.{length, set, take, drop, length-append}
 use lib.Seq.{sets-eq, take-at, drop-append-add, drop-drop}

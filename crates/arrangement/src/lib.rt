@@ -1,5 +1,5 @@
 // The arrangements of a roof under snow: the segments of one code, written into a slice that the caller lends.
-ghost use mathlib.Core.List.{_∷_, [], _++_};
+ghost use mathlib.Core.List.{_++_};
 ghost use mathlib.Core.Path.{_≡_};
 ghost use lib.ListN.{length, take, drop};
 ghost use Prim.Native.Nat.{suc, _+_, _*_, _≤_, _<_};

@@ -9,10 +9,10 @@ use lib.Dec.{leb, ltb, eqb}
 use native.Mathlib.Decide.{decLe}
 use native.Mathlib.Nat.{eq-or-lt-of-le}
 use native.Mathlib.Omega.{arith}
-use Rattle.figures.specs.Bounds.{Within, SiteIn, SlopeIn, SpanIn, ValleyIn, MultiSpanIn, CylindricalIn, ShapeIn}
+use Rattle.figures.specs.Bounds.{Within, SiteIn, SlopeIn, SpanIn, ValleyIn, ShapeIn}
 use Rattle.figures.specs.Ranges.{within}
 use Rattle.figures.specs.SiteRules.{siteFields, siteRefusal}
-use Rattle.figures.specs.RoofRules.{slopeFields, spanFields, spanAt, spansFields, cylindricalFields, multiSpanFields, shapeFields, steepValley, steepValleys, steep, highRise, roofRefusal}
+use Rattle.figures.specs.RoofRules.{slopeFields, spanFields, spanAt, spansFields, shapeFields, steepValley, steepValleys, steep, highRise, roofRefusal}
 use Rattle.figures.specs.declared.site.Site.{Site}
 use Rattle.figures.specs.declared.roof.Slope.{Slope}
 use Rattle.figures.specs.declared.roof.Span.{Span}

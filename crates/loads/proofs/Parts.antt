@@ -1,11 +1,10 @@
 -- A part that code rounds up over one denominator is the part of the definition; a break load adds them.
-use Prim.Native.Nat.{ℕ, _+_, _*_, _≤_, _<_}
+use Prim.Native.Nat.{ℕ, _+_, _*_, _<_}
 use mathlib.Core.Path.{_≡_, refl, sym, ap, _∙_}
-use mathlib.Core.Bool.{Bool, true, false}
-use native.Mathlib.Nat.{mul-pos}
+use mathlib.Core.Bool.{true}
 use native.Mathlib.Omega.{arith}
 use Rattle.rounding.specs.Fraction.{Fraction, over, Same}
-use Rattle.rounding.specs.Load.{Load, alone, breakLoad}
+use Rattle.rounding.specs.Load.{alone, breakLoad}
 use Rattle.rounding.specs.Up.{ceilDiv, roundedUp}
 use Rattle.rounding.proofs.Rounding.{up-same}
 use Rattle.standard.specs.Pitched.{halved}

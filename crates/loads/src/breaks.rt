@@ -1,5 +1,4 @@
 // Break loads in N/m²: each part of a load rounded up.
-ghost use mathlib.Core.Bool.{Bool};
 ghost use mathlib.Core.Path.{_≡_};
 ghost use Prim.Native.Nat.{_+_, _*_, _≤_};
 ghost use Rattle.figures.specs.Bounds.{Within, SlopeIn};

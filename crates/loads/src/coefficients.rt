@@ -1,7 +1,6 @@
 // The shape coefficients over one denominator each.
 ghost use mathlib.Core.Path.{_≡_};
 ghost use Prim.Native.Nat.{_+_, _*_, _≤_};
-ghost use Rattle.figures.specs.Bounds.{Within};
 ghost use Rattle.standard.proofs.Handy.{mu1Num, slopeNum, mu2Num, mu3Num, windNum, slideNum, obstacleNum};
 ghost use Rattle.standard.specs.Bounds.{NationalIn};
 use crate::limits::least;

@@ -1,5 +1,4 @@
 // The lengths of drifts, and the loaded width of an arch.
-ghost use mathlib.Core.Bool.{true, false};
 ghost use mathlib.Core.Path.{_≡_};
 ghost use Prim.Native.Nat.{_≤_, _<_, _*_};
 ghost use Rattle.figures.specs.Bounds.{Within, CylindricalIn};

@@ -1,20 +1,20 @@
 -- What the tests on a station make of a reading, one segment more, and what the call's answer is.
-use Prim.Native.Nat.{ℕ, suc, _+_, _-_, _≤_, _<_, max}
+use Prim.Native.Nat.{ℕ, _+_, _-_, _≤_, _<_, max}
 use mathlib.Core.Path.{_≡_, ap, _∙_}
-use borrow.Author.Tests.{le-leb, lt-leb, ne-eqb}
+use borrow.Author.Tests.{le-leb, lt-leb}
 use native.Mathlib.Numerals.{add-one}
 use Rattle.figures.specs.declared.site.Site.{Site}
 use Rattle.figures.specs.declared.roof.Roof.{Roof}
 use Rattle.segments.specs.Ramps.{rampOf, readRamp}
 use Rattle.segments.specs.declared.ramps.Ramp.{Ramp}
 use Rattle.standard.specs.Answers.{value, refused, figuresRefusal, loadAnswer}
-use Rattle.segments.proofs.Rules.{Sound, count-is, stretch-is}
+use Rattle.segments.proofs.Rules.{Sound, count-is, stretch-is, rules-pass}
 use Rattle.standard.proofs.Demand.{recommended-in, distance}
 use Rattle.standard.specs.Arrangements.{baseCode, factorOf, countIn, stretchIn, stretch, endOf, endIn, loadAt, exactAt}
 use Rattle.standard.specs.Coefficients.{recommendedFigures}
-use Rattle.standard.specs.Stretch.{Stretch, readIn, startOf, holds, readingAt, greatest}
+use Rattle.standard.specs.Stretch.{Stretch, readIn, startOf, holds, readingAt, greatest, Near}
 use Rattle.standard.specs.declared.National.{National}
-use Rattle.reading.specs.Reading.{valueOf, Distance}
+use Rattle.reading.specs.Reading.{valueOf}
 
 module _ (r : Ramp) (start p : ℕ) where
   pub value-before : p < start → 0 ≡ valueOf r start p
@@ -43,19 +43,14 @@ pub end-is : (r : Roof) (x : ℕ) → x ≡ endIn (r .shape) (r .spans) → x �
 unfolding endOf
 end-is r x e = e
 
-module _ (national : National) (s : Site) (r : Roof) (code p : ℕ) where
-  pub refused-figures : (k : ℕ) → k ≡ figuresRefusal s r code → (k ≡ 0 → ⊥) → refused k ≡ loadAnswer national s r code p
+module _ (national : National) (s : Site) (r : Roof) (code p : ℕ) (h : figuresRefusal s r code ≡ 0) (end : ℕ) (e : end ≡ endOf r) where
+  pub refused-station : end < p → refused 12 ≡ loadAnswer national s r code p
   unfolding loadAnswer
-  refused-figures k e n = rw (← e, ne-eqb k 0 n)
+  refused-station lt = rw (← e, lt-leb p end lt) (rules-pass s r code (refused 12) h)
 
-  module _ (h : figuresRefusal s r code ≡ 0) (end : ℕ) (e : end ≡ endOf r) where
-    pub refused-station : end < p → refused 12 ≡ loadAnswer national s r code p
-    unfolding loadAnswer
-    refused-station lt = rw (h, ← e, lt-leb p end lt)
-
-    pub answered : (x : ℕ) → p ≤ end → x ≡ loadAt national s r code p → value x ≡ loadAnswer national s r code p
-    unfolding loadAnswer
-    answered x le q = rw (h, ← e, le-leb p end le, q)
+  pub answered : (x : ℕ) → p ≤ end → x ≡ loadAt national s r code p → value x ≡ loadAnswer national s r code p
+  unfolding loadAnswer
+  answered x le q = rw (← e, le-leb p end le, ← q) (rules-pass s r code (value x) h)
 
 -- the load of the call is the definition's, and lies as near to the exact rule
 module _ (n : National) (e : n ≡ recommendedFigures) (s : Site) (r : Roof) (code base f k p x : ℕ) (b : base ≡ baseCode code) where
@@ -67,7 +62,5 @@ module _ (n : National) (e : n ≡ recommendedFigures) (s : Site) (r : Roof) (co
       h ∙ (ap (λ (S : ℕ → Stretch). greatest S p k) (stretch-is n e r code base b s f g)
       ∙ ap (greatest (stretch recommendedFigures s r code) p) (count-is n e r code base b k c))
 
-pub lies : (s : Site) (r : Roof) (code p x : ℕ) → Sound s r code → x ≡ loadAt recommendedFigures s r code p → Distance x (exactAt recommendedFigures s r code p)
-lies s r code p x h e =
-    let d = distance recommendedFigures s r code recommended-in (h .site-number) (h .roof-number) p in
-    rw e (record { positive = d .positive; low = d .low; high = d .high })
+pub lies : (s : Site) (r : Roof) (code p x : ℕ) → Sound s r code → x ≡ loadAt recommendedFigures s r code p → Near x (exactAt recommendedFigures s r code p)
+lies s r code p x h e = rw e (distance recommendedFigures s r code recommended-in (h .site-number) (h .roof-number) p)

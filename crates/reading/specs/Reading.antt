@@ -1,15 +1,14 @@
 -- What the call that reads a load at a station answers, and how far a load that it answers lies above the exact rule.
-use Prim.Native.Nat.{ℕ, _+_, _-_, _<_}
+use Prim.Native.Nat.{ℕ, _-_}
 use mathlib.Core.Bool.{cond}
 use Rattle.figures.specs.declared.site.Site.{Site}
 use Rattle.figures.specs.declared.roof.Roof.{Roof}
-use Rattle.rounding.specs.Fraction.{Fraction, AtMost, Under}
 use Rattle.segments.specs.Ramps.{readRamp}
 use Rattle.segments.specs.declared.ramps.Ramp.{Ramp}
 use Rattle.standard.specs.Answers.{Answer, value, refused}
 use Rattle.standard.specs.Arrangements.{exactAt}
 use Rattle.standard.specs.Coefficients.{recommendedFigures}
-use Rattle.standard.specs.Stretch.{holds}
+use Rattle.standard.specs.Stretch.{holds, Near}
 use Rattle.reading.specs.declared.Reading.{Reading}
 use Rattle.reading.specs.declared.Reading.the-variants.{Load, Refused}
 
@@ -22,13 +21,7 @@ readingMeans (Refused number) = refused number
 unfoldable pub valueOf : Ramp → ℕ → ℕ → ℕ
 valueOf r start p = cond (holds start (r .extent) p) (readRamp r (p - start)) 0
 
--- r lies at or above the exact value f, and less than 3 N/m² above it
-pub record Distance (r : ℕ) (f : Fraction) : Type 0 where
-  pub positive : 0 < f .den
-  pub low : AtMost f r
-  pub high : Under r f 3
-
--- the same of whatever is answered as a load
+-- whatever is answered as a load lies at or above the exact rule, and less than 3 N/m² above it
 abbrev pub distanceOf : Site → Roof → ℕ → ℕ → Reading → Type 0
-distanceOf site roof code p (Load x) = Distance x (exactAt recommendedFigures site roof code p)
+distanceOf site roof code p (Load x) = Near x (exactAt recommendedFigures site roof code p)
 distanceOf site roof code p (Refused number) = Unit

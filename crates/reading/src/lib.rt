@@ -6,7 +6,7 @@ ghost use Rattle.loads.specs.Sizes.{Ground};
 ghost use Rattle.reading.specs.Reading.{readingMeans, valueOf, distanceOf};
 ghost use Rattle.segments.specs.Ramps.{RampIn};
 ghost use Rattle.standard.specs.Answers.{loadAnswer};
-ghost use Rattle.standard.specs.Arrangements.{countIn, stretchIn, loadAt};
+ghost use Rattle.standard.specs.Arrangements.{countIn, stretchIn};
 ghost use Rattle.standard.specs.Bounds.{NationalIn};
 ghost use Rattle.standard.specs.Coefficients.{recommendedFigures};
 ghost use Rattle.standard.specs.Stretch.{greatest};

@@ -40,7 +40,7 @@ below-trans e f g h p q =
     le-of-mul-le-mul-right s h
 
 -- The smaller and the larger are each one of the two, so what holds of whichever it is holds of it.
-chosen : (P : Fraction → Type 0) (e f : Fraction) (b : Bool) → (b ≡ true → P e) → (b ≡ false → P f) → P (cond b e f)
+pub chosen : (P : Fraction → Type 0) (e f : Fraction) (b : Bool) → (b ≡ true → P e) → (b ≡ false → P f) → P (cond b e f)
 chosen P e f true p q = p refl
 chosen P e f false p q = q refl
 

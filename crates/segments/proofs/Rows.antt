@@ -1,16 +1,16 @@
 -- What the tests on rows and counts make of the definitions: which index of a full row an index of the roof is.
 use Prim.Native.Nat.{ℕ, zero, suc, _+_, _-_, _*_, _≤_, _<_}
-use mathlib.Core.Path.{_≡_, refl, _∙_}
+use mathlib.Core.Path.{_≡_, refl}
 use mathlib.Core.Bool.{Bool, true, false, cond}
 use borrow.Author.Tests.{lt-ltb, le-ltb, ltb-true}
 use lib.Dec.{ltb}
 use native.Mathlib.Numerals.{add-one}
 use native.Mathlib.Omega.{arith}
 use Rattle.rounding.specs.Load.{Load}
-use Rattle.standard.specs.Abutting.{abuttingLength, abuttingDrift, abutting, abuttingCount}
+use Rattle.standard.specs.Abutting.{abuttingLength, abuttingDrift, abuttingCount}
 use Rattle.standard.specs.Cylindrical.{loadedWidth, archEven, archDrift, cylindricalCount}
 use Rattle.standard.specs.Projection.{projectionLength, besides, projectionCount}
-use Rattle.standard.specs.Stretch.{even, eightTenths, noLoad}
+use Rattle.standard.specs.Stretch.{even, noLoad}
 use Rattle.standard.specs.declared.National.{National}
 
 module _ (short long i : ℕ) where

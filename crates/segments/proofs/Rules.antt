@@ -11,7 +11,7 @@ use Rattle.figures.specs.RoofRules.{roofRefusal}
 use Rattle.figures.specs.SiteRules.{siteRefusal}
 use Rattle.figures.specs.declared.site.Site.{Site}
 use Rattle.figures.specs.declared.roof.Roof.{Roof}
-use Rattle.standard.specs.Answers.{figuresRefusal}
+use Rattle.standard.specs.Answers.{Answer, refused, figuresRefusal, afterRules}
 use Rattle.loads.specs.Sizes.{Ground}
 use Rattle.standard.proofs.Demand.{recommended-in}
 use Rattle.standard.specs.Arrangements.{exists, baseCode, factorOf, countIn, count, stretchIn, stretch}
@@ -37,6 +37,16 @@ module _ (s : Site) (r : Roof) (code : ℕ) where
       pub on-code : exists s r code ≡ false → 13 ≡ figuresRefusal s r code
       unfolding figuresRefusal
       on-code e = rw (hs, hr, e)
+
+-- what is answered after the rules: their refusal, or what comes next
+module _ (s : Site) (r : Roof) (code : ℕ) (next : Answer) where
+  pub rules-refuse : (k : ℕ) → k ≡ figuresRefusal s r code → (k ≡ 0 → ⊥) → refused k ≡ afterRules s r code next
+  unfolding afterRules
+  rules-refuse k e n = rw (← e, ne-eqb k 0 n)
+
+  pub rules-pass : figuresRefusal s r code ≡ 0 → next ≡ afterRules s r code next
+  unfolding afterRules
+  rules-pass e = rw e
 
 -- what figures keep that break no rule
 pub record Sound (s : Site) (r : Roof) (k : ℕ) : Type 0 where

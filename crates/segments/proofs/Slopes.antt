@@ -1,18 +1,18 @@
 -- The slopes of a multi-span roof: which end is a valley, and what accepted spans keep.
-use Prim.Native.Nat.{ℕ, zero, suc, _+_, _-_, _*_, _/_, _%_, _≤_, _<_}
+use Prim.Native.Nat.{ℕ, _+_, _-_, _*_, _/_, _%_, _<_}
 use mathlib.Core.Path.{_≡_, refl}
-use mathlib.Core.Bool.{Bool, true, false, cond, _||_}
+use mathlib.Core.Bool.{Bool, true, false, _||_}
 use mathlib.Core.List.{List}
 use borrow.Author.Tests.{eqb-false}
 use lib.Dec.{eqb}
 use native.Mathlib.Nat.{div-lt-iff-lt-mul}
 use native.Mathlib.Numerals.{add-one}
 use native.Mathlib.Omega.{arith}
-use Rattle.figures.specs.Bounds.{SlopeIn, SpanIn, MultiSpanIn}
+use Rattle.figures.specs.Bounds.{SlopeIn, MultiSpanIn}
 use Rattle.figures.specs.RoofRules.{spanAt}
-use Rattle.figures.specs.declared.roof.Slope.{Slope}
 use Rattle.figures.specs.declared.roof.Span.{Span}
-use Rattle.rounding.specs.Load.{Load, breakLoad}
+use Rattle.rounding.specs.Load.{breakLoad}
+use Rattle.standard.proofs.MultiSpan.{slope-in}
 use Rattle.standard.specs.MultiSpan.{slopeOf, ownLoad, valleyLoad, multiSpanFrom, multiSpanTo, widths}
 
 -- neither of three tests held
@@ -42,13 +42,8 @@ module _ (factor sk : ℕ) (l : List Span) (undrifted : Bool) (i x : ℕ) where
     unfolding multiSpanTo
     to-valley e h = rw e h
 
-side : (s : Span) (b : Bool) → SpanIn s → SlopeIn (cond b (s .left) (s .right))
-side s true h = h .left
-side s false h = h .right
-
 pub slopes-in : (n : ℕ) (l : List Span) → MultiSpanIn n l → (i : ℕ) → i < 2 * n → SlopeIn (slopeOf l i)
-unfolding slopeOf
-slopes-in n l h i lt = side (spanAt l (i / 2)) (eqb (i % 2) 0) (h .spans (i / 2) ((div-lt-iff-lt-mul (omega arith)) .1 (omega arith)))
+slopes-in n l h i lt = slope-in l i (h .spans (i / 2) ((div-lt-iff-lt-mul (omega arith)) .1 (omega arith)))
 
 pub widths-more : (l : List Span) (i : ℕ) → widths l (i + 1) ≡ widths l i + (spanAt l i .left .width + spanAt l i .right .width)
 unfolding widths

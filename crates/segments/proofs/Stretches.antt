@@ -7,7 +7,7 @@ use Rattle.rounding.specs.Up.{ceilDiv, roundedUp}
 use Rattle.rounding.proofs.Ramps.{reading-most}
 use native.Mathlib.Nat.{mul-le-mul}
 use native.Mathlib.Omega.{arith}
-use Rattle.standard.specs.Stretch.{Stretch, noLoad}
+use Rattle.standard.specs.Stretch.{noLoad}
 use Rattle.segments.specs.Ramps.{rampOf, RampIn}
 use Rattle.segments.specs.declared.ramps.Ramp.{Ramp}
 

@@ -1,5 +1,4 @@
 // Kind 6, a lower flat roof at a taller one (5.3.6).
-ghost use mathlib.Core.Bool.{Bool, true, false, cond};
 ghost use mathlib.Core.Path.{_≡_};
 ghost use Prim.Native.Nat.{_≤_, _<_};
 ghost use Rattle.figures.specs.Bounds.{Within, AbuttingIn};

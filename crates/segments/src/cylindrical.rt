@@ -1,14 +1,13 @@
 // Kind 5, a cylindrical roof (5.3.5).
-ghost use mathlib.Core.Bool.{Bool, true, false, cond};
+ghost use mathlib.Core.Bool.{true, false, cond};
 ghost use mathlib.Core.Path.{_≡_};
 ghost use lib.Dec.{ltb};
 ghost use Prim.Native.Nat.{_≤_, _<_, suc};
 ghost use Rattle.figures.specs.Bounds.{Within, CylindricalIn};
 ghost use Rattle.loads.specs.Sizes.{Ground};
-ghost use Rattle.rounding.specs.Load.{Load, breakLoad};
 ghost use Rattle.segments.specs.Ramps.{rampOf, RampIn};
 ghost use Rattle.standard.specs.Bounds.{NationalIn};
-ghost use Rattle.standard.specs.Cylindrical.{loadedWidth, archEven, archDrift, halfLoad, peakLoad, cylindrical, cylindricalCount};
+ghost use Rattle.standard.specs.Cylindrical.{archEven, archDrift, halfLoad, peakLoad, cylindrical, cylindricalCount};
 use crate::ramps::Ramp;
 use crate::ramps::even;
 use crate::ramps::whole;

@@ -1,6 +1,5 @@
 // The stretch at an index, the number of stretches and the roof's end, by the shape.
 ghost use mathlib.Core.Path.{_≡_};
-ghost use lib.Dec.{eqb};
 ghost use Prim.Native.Nat.{_≤_, _<_};
 ghost use Rattle.figures.specs.Bounds.{ShapeIn};
 ghost use Rattle.loads.specs.Sizes.{Ground};

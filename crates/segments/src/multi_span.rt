@@ -1,7 +1,7 @@
 // Kind 4, a multi-span roof (5.3.4).
 ghost use mathlib.Core.Path.{_≡_};
 ghost use Prim.Native.Nat.{_*_, _+_, _-_, _≤_, _<_};
-ghost use Rattle.figures.specs.Bounds.{MultiSpanIn, SlopeIn};
+ghost use Rattle.figures.specs.Bounds.{SlopeIn};
 ghost use Rattle.loads.specs.Sizes.{Ground};
 ghost use Rattle.rounding.specs.Load.{breakLoad};
 ghost use Rattle.segments.specs.Ramps.{rampOf, RampIn};

@@ -4,7 +4,6 @@ use mathlib.Core.Path.{_≡_, refl}
 use mathlib.Core.List.{List, [], _∷_}
 use mathlib.Core.Logic.{inl, inr}
 use denote.Enum.Declared
-use native.Mathlib.Numerals.{add-one}
 use native.Mathlib.Omega.{arith}
 use types.Run.{OneOf}
 use Rattle.figures.specs.declared.roof.Span.{Span}

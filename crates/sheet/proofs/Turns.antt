@@ -1,7 +1,7 @@
 -- The items of a sheet in turn, and what the tests on a pair tell.
-use Prim.Native.Nat.{ℕ, zero, suc, _+_, _-_, _*_, _≤_, _<_}
-use mathlib.Core.Path.{_≡_, sym, _∙_}
-use mathlib.Core.Bool.{Bool, true, false, _&&_}
+use Prim.Native.Nat.{ℕ, suc, _+_, _-_, _*_, _≤_, _<_}
+use mathlib.Core.Path.{_≡_}
+use mathlib.Core.Bool.{true, false, _&&_}
 use mathlib.Core.List.{List}
 use borrow.Author.Tests.{le-leb, lt-leb, leb-true, eq-eqb, ne-eqb}
 use lib.Dec.{leb}
@@ -10,7 +10,7 @@ use native.Mathlib.Numerals.{add-one}
 use native.Mathlib.Omega.{arith}
 use Rattle.figures.proofs.Laws.{both, within-in}
 use Rattle.figures.specs.Ranges.{within}
-use Rattle.sheet.specs.Sheet.{Answer, accepted, refused, count, offset, size, earliest, fits, pairNumber, inTurn, pairsVerdict}
+use Rattle.sheet.specs.Sheet.{accepted, refused, count, offset, size, earliest, fits, pairNumber, inTurn, pairsVerdict}
 use Rattle.sheet.specs.declared.pairs.Ceiling.{Ceiling}
 
 -- one turn of the walk, by the number of the item in turn; its end

@@ -1,8 +1,7 @@
 // The reader: every rule on a sheet in document 01's order, and its items.
 ghost use mathlib.Core.Path.{_≡_};
-ghost use Prim.Native.Nat.{suc};
 ghost use Rattle.sheet.specs.Items.{content, misplaced, ruleNumber};
-ghost use Rattle.sheet.specs.Sheet.{terminals, count, itemNumber, inTurn, pairsVerdict, accepted, sheetVerdict, place, partAt, verdictMeans, locatedMeans};
+ghost use Rattle.sheet.specs.Sheet.{terminals, itemNumber, inTurn, pairsVerdict, accepted, sheetVerdict, place, partAt, verdictMeans, locatedMeans};
 use crate::items::Item;
 use crate::items::decode;
 use crate::numbers::index_at;

@@ -20,10 +20,10 @@ use Rattle.figures.proofs.Accepted.{site-in, roof-in}
 use Rattle.rounding.specs.Load.{breakLoad}
 use Rattle.standard.specs.Bounds.{NationalIn}
 use Rattle.standard.specs.Coefficients.{recommendedFigures}
-use Rattle.standard.specs.Stretch.{greatest}
+use Rattle.standard.specs.Stretch.{greatest, Near}
 use Rattle.standard.specs.Arrangements.{accidental, baseCode, factorOf, countIn, stretchIn, rampedIn, endIn, exists, count, stretch, endOf, loadAt, exactAt}
 use Rattle.standard.specs.declared.National.{National}
-use Rattle.standard.proofs.Runs.{Near, Held, ReadHeld, Rises, Level, WellFormed, near-greatest, covered, one-reads, rise-greatest}
+use Rattle.standard.proofs.Runs.{Held, ReadHeld, Rises, Level, WellFormed, near-greatest, covered, one-reads, rise-greatest}
 use Rattle.standard.proofs.Monopitch.{monopitch-formed, monopitch-rises, monopitch-level}
 use Rattle.standard.proofs.Pitched.{pitched-formed, pitched-rises, pitched-level}
 use Rattle.standard.proofs.MultiSpan.{multi-span-formed, multi-span-rises, multi-span-level}

@@ -9,15 +9,10 @@ use native.Mathlib.Omega.{arith}
 use Rattle.figures.specs.declared.roof.Slope.{Slope}
 use Rattle.rounding.specs.Fraction.{Fraction, over, sum, Same}
 use Rattle.rounding.specs.Limit.{smaller}
-use Rattle.rounding.proofs.Limits.{smaller-positive, larger-positive, smaller-over, larger-over}
+use Rattle.rounding.proofs.Limits.{chosen, smaller-positive, larger-positive, smaller-over, larger-over}
 use Rattle.standard.specs.Coefficients.{mu1, guarded, slopeMu, mu2, mu3, muWind, muSlide, muProjection}
 use Rattle.standard.specs.Stretch.{load}
 use Rattle.standard.specs.declared.National.{National}
-
--- a choice by a test, where each outcome is known by what the test tells
-chosen : (P : Fraction → Type 0) (e f : Fraction) (b : Bool) → (b ≡ true → P e) → (b ≡ false → P f) → P (cond b e f)
-chosen P e f true p q = p refl
-chosen P e f false p q = q refl
 
 eight-tenths : Same (over 8 10) (over 300 375)
 unfolding Same

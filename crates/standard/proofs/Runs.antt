@@ -4,6 +4,7 @@ use mathlib.Core.Path.{_≡_, refl, _∙_}
 use mathlib.Core.Bool.{Bool, true, false, cond}
 use mathlib.Core.Logic.{⊎-elim}
 use borrow.Author.Tests.{le-leb}
+use lib.ListN.{getD}
 use native.Mathlib.Decide.{decLe}
 use native.Mathlib.Nat.{mul-le-mul-right, mul-lt-mul-of-pos-right, lt-of-mul-lt-mul-right, eq-or-lt-of-le, le-max-right, max-comm, max-eq-left, max-eq-right}
 use native.Mathlib.Omega.{arith}
@@ -14,7 +15,7 @@ use Rattle.rounding.specs.Limit.{larger}
 use Rattle.rounding.specs.Load.{Load, Positive, breakLoad}
 use Rattle.rounding.proofs.Ramps.{close-whole, exact-positive, line-positive, ramp-close, ramp-mono, reading-start, reading-end}
 use Rattle.rounding.proofs.Limits.{larger-is}
-use Rattle.standard.specs.Stretch.{Stretch, even, ramp, readIn, exactIn, startOf, holds, readingAt, exactReadingAt, greatest, exactGreatest}
+use Rattle.standard.specs.Stretch.{Stretch, even, ramp, readIn, exactIn, startOf, segment, holds, readingAt, exactReadingAt, greatest, exactGreatest, Near}
 
 -- a stretch fit to be read
 pub record Fine (s : Stretch) : Type 0 where
@@ -51,12 +52,6 @@ pub record Level (s : Stretch) : Type 0 where
 
 pub even-level : (extent : ℕ) (l : Load) → Level (even extent l)
 even-level extent l = record { ends = refl; skip = refl; full = refl }
-
--- r is not below f, and less than 3 above it
-pub record Near (r : ℕ) (f : Fraction) : Type 0 where
-  pub positive : 0 < f .den
-  pub low : AtMost f r
-  pub high : Under r f 3
 
 near-nothing : Near 0 (over 0 1)
 unfolding AtMost Under
@@ -255,3 +250,21 @@ pub ramp-beside :
 ramp-beside true n zero h c e e' = outside 1 n 1 e' (omega arith) h
 ramp-beside true n (suc i) h c e e' = outside 1 n (suc i) e (omega arith) (omega arith)
 ramp-beside false n i h c e e' = outside 1 n (suc i) e (omega arith) (omega arith)
+
+-- a segment's two loads are what its own line reads at its two ends
+module _ (S : ℕ → Stretch) (i : ℕ) where
+  held-here : (p : ℕ) → startOf S i ≤ p → p ≤ startOf S i + S i .extent → readIn (S i) (p - startOf S i) ≡ readingAt S p i
+  unfolding readingAt holds
+  held-here p a b = rw (le-leb (startOf S i) p a, le-leb p (startOf S i + S i .extent) b)
+
+  pub start-reads : getD (segment S i) 2 0 ≡ readingAt S (startOf S i) i
+  unfolding segment
+  start-reads =
+      let e : startOf S i - startOf S i ≡ 0 = omega arith in
+      rw e at (held-here (startOf S i) (omega arith) (omega arith))
+
+  pub end-reads : getD (segment S i) 3 0 ≡ readingAt S (startOf S i + S i .extent) i
+  unfolding segment
+  end-reads =
+      let e : startOf S i + S i .extent - startOf S i ≡ S i .extent = omega arith in
+      rw e at (held-here (startOf S i + S i .extent) (omega arith) (omega arith))

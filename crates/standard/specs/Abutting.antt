@@ -1,6 +1,6 @@
 -- Kind 6, 5.3.6: the roof is b2 long, with the wall at its left end. Code 1: 0.8. Code 2: from μs + μw at the wall to 0.8 at the
 -- drift length, then 0.8.
-use Prim.Native.Nat.{ℕ, zero, suc, _+_, _-_, _*_, min}
+use Prim.Native.Nat.{ℕ, zero, suc, _-_, _*_, min}
 use mathlib.Core.Bool.{Bool, true, false, cond}
 use lib.Dec.{ltb}
 use Rattle.figures.specs.declared.roof.Slope.{Slope}

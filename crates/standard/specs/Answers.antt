@@ -22,16 +22,16 @@ figuresRefusal site roof code =
     (roofRefusal roof))
     (siteRefusal site)
 
+-- what is answered after the rules on the figures and the code
+unfoldable pub afterRules : Site → Roof → ℕ → Answer → Answer
+afterRules site roof code next = cond (eqb (figuresRefusal site roof code) 0) next (refused (figuresRefusal site roof code))
+
 -- the number of segments; 11 where the slice is shorter than four numbers for each
 unfoldable pub makeAnswer : National → Site → Roof → ℕ → ℕ → Answer
 makeAnswer national site roof code room =
-    cond (eqb (figuresRefusal site roof code) 0)
-    (cond (leb (4 * count national roof code) room) (value (count national roof code)) (refused 11))
-    (refused (figuresRefusal site roof code))
+    afterRules site roof code (cond (leb (4 * count national roof code) room) (value (count national roof code)) (refused 11))
 
 -- the load read; 12 where the position is past the roof's end
 unfoldable pub loadAnswer : National → Site → Roof → ℕ → ℕ → Answer
 loadAnswer national site roof code p =
-    cond (eqb (figuresRefusal site roof code) 0)
-    (cond (leb p (endOf roof)) (value (loadAt national site roof code p)) (refused 12))
-    (refused (figuresRefusal site roof code))
+    afterRules site roof code (cond (leb p (endOf roof)) (value (loadAt national site roof code p)) (refused 12))

@@ -17,7 +17,7 @@ use Rattle.standard.specs.MultiSpan.{multiSpan, widths}
 use Rattle.standard.specs.Cylindrical.{loadedWidth, cylindrical, cylindricalCount}
 use Rattle.standard.specs.Abutting.{abutting, abuttingCount}
 use Rattle.standard.specs.Projection.{projectionLength, projection, projectionCount}
-use Rattle.standard.specs.Stretch.{Stretch, segment, segments, greatest, exactGreatest}
+use Rattle.standard.specs.Stretch.{Stretch, segments, greatest, exactGreatest}
 use Rattle.standard.specs.declared.National.{National}
 
 -- "Kind 2 has code 1; kind 3 has 1, 2, 3; kinds 4, 5, 6 have 1, 2; kind 7 has 2"

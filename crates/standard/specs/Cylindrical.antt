@@ -3,7 +3,7 @@
 use Prim.Native.Nat.{ℕ, zero, suc, _+_, _-_, _*_}
 use mathlib.Core.Bool.{Bool, true, false, cond}
 use lib.Dec.{leb, ltb}
-use Rattle.rounding.specs.Fraction.{Fraction, over}
+use Rattle.rounding.specs.Fraction.{over}
 use Rattle.rounding.specs.Load.{Load}
 use Rattle.standard.specs.Coefficients.{mu3}
 use Rattle.standard.specs.Stretch.{Stretch, even, ramp, loadAlone, eightTenths, noLoad}

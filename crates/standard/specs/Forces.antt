@@ -1,6 +1,6 @@
 -- Local forces, kinds 2 and 3, persistent, in N/m: the overhang at an eave and the force at a guard.
-use Prim.Native.Nat.{ℕ, zero, suc, _+_, _*_, _<_}
-use mathlib.Core.Bool.{Bool, true, false, cond}
+use Prim.Native.Nat.{ℕ, _*_}
+use mathlib.Core.Bool.{cond}
 use lib.Dec.{ltb, eqb}
 use Rattle.figures.specs.RoofRules.{roofRefusal}
 use Rattle.figures.specs.SiteRules.{siteRefusal}
@@ -11,7 +11,7 @@ use Rattle.figures.specs.declared.roof.Shape.the-variants.{Monopitch, Pitched, 
 use Rattle.figures.specs.declared.roof.Roof.{Roof}
 use Rattle.rounding.specs.Fraction.{Fraction, over}
 use Rattle.rounding.specs.Limit.{smaller}
-use Rattle.rounding.specs.Load.{Load, exact, breakLoad}
+use Rattle.rounding.specs.Load.{Load, breakLoad}
 use Rattle.rounding.specs.Up.{roundedUp}
 use Rattle.standard.specs.Arrangements.{factorOf}
 use Rattle.standard.specs.Coefficients.{slopeMu}

@@ -1,6 +1,6 @@
 -- Kind 7, 6.2: on both sides of the projection from μ2 down to 0.8 at the drift length, then 0.8. The projection takes no length.
 use Prim.Native.Nat.{ℕ, zero, suc, _+_, _-_, _*_, min}
-use mathlib.Core.Bool.{Bool, cond}
+use mathlib.Core.Bool.{cond}
 use lib.Dec.{ltb}
 use Rattle.rounding.specs.Load.{Load}
 use Rattle.standard.specs.Coefficients.{driftLength, muProjection}

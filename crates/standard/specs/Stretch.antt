@@ -1,11 +1,11 @@
 -- A stretch is one segment before rounding: a part of an uncut ramp, with the exact loads at the ramp's two ends.
 -- A run of stretches, by their index, has no starts of its own: where one starts is the sum of the lengths before it.
 -- Lengths and stations are in quarter millimetres.
-use Prim.Native.Nat.{ℕ, zero, suc, _+_, _-_, _*_, max}
-use mathlib.Core.Bool.{Bool, true, false, cond, _&&_}
+use Prim.Native.Nat.{ℕ, zero, suc, _+_, _-_, _*_, _<_, max}
+use mathlib.Core.Bool.{Bool, cond, _&&_}
 use mathlib.Core.List.{List, [], _∷_, _++_}
 use lib.Dec.{leb}
-use Rattle.rounding.specs.Fraction.{Fraction, over}
+use Rattle.rounding.specs.Fraction.{Fraction, over, AtMost, Under}
 use Rattle.rounding.specs.Limit.{larger}
 use Rattle.rounding.specs.Load.{Load, alone, exact, breakLoad}
 use Rattle.rounding.specs.Ramp.{line, reading}
@@ -82,3 +82,9 @@ greatest S p (suc n) = max (greatest S p n) (readingAt S p n)
 unfoldable pub exactGreatest : (ℕ → Stretch) → ℕ → ℕ → Fraction
 exactGreatest S p zero = over 0 1
 exactGreatest S p (suc n) = larger (exactGreatest S p n) (exactReadingAt S p n)
+
+-- r lies at or above the exact value f, and less than 3 N/m² above it; f is a true fraction
+pub record Near (r : ℕ) (f : Fraction) : Type 0 where
+  pub positive : 0 < f .den
+  pub low : AtMost f r
+  pub high : Under r f 3

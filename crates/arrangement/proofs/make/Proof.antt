@@ -1,14 +1,14 @@
-use Rattle.arrangement.proofs.Answering.{refused-figures, refused-room, answered}
+use Rattle.standard.specs.Answers.{makeAnswer}
+use Rattle.arrangement.proofs.Answering.{refused-room, answered}
 use Rattle.standard.specs.Stretch.{Stretch, segments}
 use Rattle.standard.specs.Coefficients.{recommendedFigures}
 use Rattle.standard.specs.Arrangements.{count}
-use Rattle.segments.proofs.Rules.{Sound, sound, grounded, national-in, count-is, stretch-is}
+use Rattle.segments.proofs.Rules.{Sound, sound, grounded, national-in, count-is, stretch-is, rules-refuse}
 use denote.Ref.{now}
 use lib.ListN.{drop}
 use Prim.Native.Nat.{ℕ, _*_}
-use mathlib.Core.List.{List, _++_}
+use mathlib.Core.List.{_++_}
 use mathlib.Core.Path.{_≡_, refl, sym, ap, _∙_}
-use native.Mathlib.Omega.{arith}
 use borrow.Author.Needs.{needs}
 use Rattle.arrangement.proofs.make.Statement.{statement}
 use Rattle.arrangement.proofs.make.Tie as tie
@@ -23,7 +23,8 @@ refusal-requires : tie.Need-refusal-requires
 refusal-requires c κs = search needs
 
 returns : tie.Need-returns
-returns c = (refused-figures _ _ _ _ _ _ (c .before .refusal .ensures) (c .if1 .taken), refl)
+unfolding makeAnswer
+returns c = (rules-refuse _ _ _ _ _ (c .before .refusal .ensures) (c .if1 .taken), refl)
 
 recommended-requires : tie.Need-recommended-requires
 recommended-requires c κs = search needs

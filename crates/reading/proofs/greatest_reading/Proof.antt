@@ -3,7 +3,6 @@ use Rattle.standard.specs.Stretch.{startOf, greatest}
 use Rattle.standard.specs.Arrangements.{stretchIn}
 use Prim.Native.Nat.{_≤_, _-_, _*_}
 use mathlib.Core.Path.{_≡_, refl}
-use borrow.Author.Needs.{needs}
 use native.Mathlib.Omega.{arith}
 use Rattle.reading.proofs.greatest_reading.Statement.{statement}
 use Rattle.reading.proofs.greatest_reading.Tie as tie

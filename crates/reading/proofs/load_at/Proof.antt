@@ -1,6 +1,7 @@
-use Rattle.reading.proofs.Stations.{end-is, refused-figures, refused-station, answered, load-is, lies}
-use Rattle.segments.proofs.Rules.{Sound, sound, grounded, national-in}
-use mathlib.Core.Path.{_≡_, sym, _∙_}
+use Rattle.standard.specs.Answers.{loadAnswer}
+use Rattle.reading.proofs.Stations.{end-is, refused-station, answered, load-is, lies}
+use Rattle.segments.proofs.Rules.{Sound, sound, grounded, national-in, rules-refuse}
+use mathlib.Core.Path.{sym, _∙_}
 use borrow.Author.Needs.{needs}
 use Rattle.reading.proofs.load_at.Statement.{statement}
 use Rattle.reading.proofs.load_at.Tie as tie
@@ -12,7 +13,8 @@ refusal-requires : tie.Need-refusal-requires
 refusal-requires c κs = search needs
 
 returns : tie.Need-returns
-returns c = (refused-figures _ _ _ _ _ _ (c .before .refusal .ensures) (c .if1 .taken), tt)
+unfolding loadAnswer
+returns c = (rules-refuse _ _ _ _ _ (c .before .refusal .ensures) (c .if1 .taken), tt)
 
 end-requires : tie.Need-end-requires
 end-requires c κs = fine c .shape

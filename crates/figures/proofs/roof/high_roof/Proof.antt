@@ -1,5 +1,5 @@
 use Rattle.figures.specs.RoofRules.{highRise}
-use mathlib.Core.Path.{_≡_, sym, ap, _∙_}
+use mathlib.Core.Path.{sym, ap}
 use borrow.Author.Needs.{needs}
 use Rattle.figures.proofs.roof.high_roof.Statement.{statement}
 use Rattle.figures.proofs.roof.high_roof.Tie as tie

@@ -1,5 +1,3 @@
-use mathlib.Core.Path.{_≡_, sym, ap, _∙_}
-use Rattle.figures.specs.declared.roof.Shape.{Shape}
 use Rattle.figures.specs.RoofRules.{shapeFields}
 use borrow.Author.Needs.{needs}
 use Rattle.figures.proofs.roof.roof_fields.Statement.{statement}

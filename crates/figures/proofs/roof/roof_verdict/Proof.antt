@@ -1,6 +1,6 @@
 use Rattle.figures.proofs.Laws.{roof-8, roof-9, roof-10, roof-0}
 use borrow.Author.Tests.{not-true, not-false}
-use mathlib.Core.Path.{_≡_, sym, _∙_}
+use mathlib.Core.Path.{sym, _∙_}
 use borrow.Author.Needs.{needs}
 use Rattle.figures.proofs.roof.roof_verdict.Statement.{statement}
 use Rattle.figures.proofs.roof.roof_verdict.Tie as tie

@@ -1,8 +1,7 @@
 use Rattle.figures.proofs.Laws.{spans-more}
 use Rattle.figures.specs.RoofRules.{spansFields}
 use Prim.Native.Nat.{_≤_, _-_}
-use native.Mathlib.Numerals.{add-one}
-use mathlib.Core.Path.{_≡_, refl, sym, ap, _∙_}
+use mathlib.Core.Path.{_≡_, refl}
 use native.Mathlib.Omega.{arith}
 use Rattle.figures.proofs.roof.spans_fields.Statement.{statement}
 use Rattle.figures.proofs.roof.spans_fields.Tie as tie

@@ -2,7 +2,6 @@ use Prim.Native.Nat.{_≤_}
 use Rattle.figures.proofs.Laws.{spans-in}
 use native.Mathlib.Omega.{arith}
 use Rattle.figures.specs.RoofRules.{steep}
-use mathlib.Core.Path.{_≡_, sym, ap, _∙_}
 use borrow.Author.Needs.{needs}
 use Rattle.figures.proofs.roof.steep_roof.Statement.{statement}
 use Rattle.figures.proofs.roof.steep_roof.Tie as tie

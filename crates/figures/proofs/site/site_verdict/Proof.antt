@@ -1,7 +1,6 @@
 use Rattle.figures.proofs.Laws.{site-6, site-7, site-0}
-use mathlib.Core.Path.{_≡_, refl, sym, ap, _∙_}
-use Rattle.figures.specs.SiteRules.{siteFields, siteRefusal}
-use borrow.Author.Tests.{le-leb, lt-leb, not-true, not-false}
+use mathlib.Core.Path.{sym, _∙_}
+use borrow.Author.Tests.{not-true, not-false}
 use borrow.Author.Needs.{needs}
 use Rattle.figures.proofs.site.site_verdict.Statement.{statement}
 use Rattle.figures.proofs.site.site_verdict.Tie as tie

@@ -4,7 +4,7 @@ use Rattle.standard.proofs.Handy.{mu3-is, mu3-positive}
 use Rattle.standard.specs.Pitched.{halved}
 use Rattle.standard.specs.Coefficients.{mu3}
 use Prim.Native.Nat.{_*_}
-use mathlib.Core.Bool.{true, false}
+use mathlib.Core.Bool.{true}
 use native.Mathlib.Omega.{arith}
 use borrow.Author.Needs.{needs}
 use Rattle.loads.proofs.breaks.arch_load.Statement.{statement}

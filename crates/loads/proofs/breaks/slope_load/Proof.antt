@@ -2,7 +2,7 @@ use Rattle.loads.proofs.Parts.{part-is, alone-is, half-is, half-positiv
 use Rattle.standard.proofs.Handy.{slope-mu-is, slope-mu-positive}
 use Rattle.standard.specs.Pitched.{halved}
 use Rattle.standard.specs.Coefficients.{slopeMu}
-use mathlib.Core.Bool.{true, false}
+use mathlib.Core.Bool.{true}
 use native.Mathlib.Omega.{arith}
 use borrow.Author.Needs.{needs}
 use Rattle.loads.proofs.breaks.slope_load.Statement.{statement}

@@ -1,11 +1,10 @@
-use mathlib.Core.Path.{_≡_, sym}
 use Rattle.loads.proofs.Products.{product, wind-small}
 use Rattle.loads.proofs.Products.{wind-most}
 use Rattle.loads.proofs.Parts.{part-is, part-without, both-are}
 use Rattle.standard.proofs.Handy.{wind-is, wind-positive, slide-is, slide-positive}
 use Rattle.standard.specs.Coefficients.{muWind, muSlide}
 use Rattle.standard.specs.Abutting.{wallLoad, abuttingLength}
-use Prim.Native.Nat.{_*_, _+_, _≤_}
+use Prim.Native.Nat.{_*_, _≤_}
 use native.Mathlib.Omega.{arith}
 use borrow.Author.Needs.{needs}
 use Rattle.loads.proofs.breaks.wall_load.Statement.{statement}

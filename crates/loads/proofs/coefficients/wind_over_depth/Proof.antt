@@ -2,7 +2,6 @@ use native.Mathlib.Nat.{mul-le-mul-right}
 use Rattle.loads.proofs.Products.{product}
 use Rattle.standard.proofs.Handy.{windNum}
 use Prim.Native.Nat.{_*_}
-use mathlib.Core.Path.{_≡_}
 use native.Mathlib.Omega.{arith}
 use borrow.Author.Needs.{needs}
 use Rattle.loads.proofs.coefficients.wind_over_depth.Statement.{statement}

@@ -1,7 +1,7 @@
 use Rattle.segments.proofs.Rows.{abutting-past, abutting-rest}
 use Rattle.segments.proofs.Stretches.{made-is, made-in}
 use Rattle.standard.specs.Abutting.{abutting, abuttingDrift}
-use Prim.Native.Nat.{_≤_, _<_}
+use Prim.Native.Nat.{_<_}
 use mathlib.Core.Path.{_∙_}
 use native.Mathlib.Omega.{arith}
 use borrow.Author.Needs.{needs}

@@ -1,5 +1,4 @@
 use Rattle.standard.specs.Cylindrical.{cylindricalCount}
-use borrow.Author.Tests.{ltb-true, ltb-false}
 use native.Mathlib.Omega.{arith}
 use borrow.Author.Needs.{needs}
 use Rattle.segments.proofs.cylindrical.cylindrical_count.Statement.{statement}

@@ -1,6 +1,5 @@
 use Rattle.segments.proofs.Rows.{ArchRow, arch-row, arch-few}
 use Rattle.standard.specs.Cylindrical.{cylindrical}
-use mathlib.Core.Path.{_≡_, _∙_}
 use native.Mathlib.Omega.{arith}
 use borrow.Author.Needs.{needs}
 use Rattle.segments.proofs.cylindrical.cylindrical_ramp.Statement.{statement}

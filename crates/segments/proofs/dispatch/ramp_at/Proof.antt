@@ -2,7 +2,6 @@ use Rattle.segments.proofs.Shapes.{monopitch-at, pitched-at, multi-span
 use Rattle.segments.proofs.Slopes.{slopes-in}
 use Rattle.standard.specs.Monopitch.{monopitch}
 use Rattle.standard.specs.Arrangements.{stretchIn}
-use native.Mathlib.Omega.{arith}
 use borrow.Author.Needs.{needs}
 use Rattle.segments.proofs.dispatch.ramp_at.Statement.{statement}
 use Rattle.segments.proofs.dispatch.ramp_at.Tie as tie

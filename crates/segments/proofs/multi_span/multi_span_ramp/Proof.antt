@@ -1,8 +1,6 @@
 use Rattle.segments.proofs.Stretches.{made-is, made-in}
 use Rattle.standard.specs.MultiSpan.{multiSpan}
 use Rattle.figures.specs.Bounds.{SlopeIn}
-use Prim.Native.Nat.{_*_}
-use mathlib.Core.Path.{_≡_, ap, sym}
 use native.Mathlib.Omega.{arith}
 use borrow.Author.Needs.{needs}
 use Rattle.segments.proofs.multi_span.multi_span_ramp.Statement.{statement}

@@ -1,7 +1,5 @@
 use Rattle.segments.proofs.Rows.{projection-row, projection-few}
 use Rattle.standard.specs.Projection.{projection}
-use mathlib.Core.Path.{_≡_, _∙_}
-use native.Mathlib.Omega.{arith}
 use borrow.Author.Needs.{needs}
 use Rattle.segments.proofs.projection.projection_ramp.Statement.{statement}
 use Rattle.segments.proofs.projection.projection_ramp.Tie as tie

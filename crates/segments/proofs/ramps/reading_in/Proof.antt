@@ -1,11 +1,7 @@
 use Rattle.segments.proofs.Stretches.{Weighed, weighed}
-use Rattle.segments.specs.declared.ramps.Ramp.{Ramp}
-use Rattle.segments.specs.Ramps.{RampIn}
-use Prim.Native.Nat.{ℕ, _+_, _-_, _*_, _≤_}
+use Prim.Native.Nat.{_-_}
 use Rattle.segments.specs.Ramps.{readRamp}
-use Rattle.rounding.proofs.Ramps.{reading-most}
 use Rattle.rounding.specs.Ramp.{reading}
-use native.Mathlib.Nat.{mul-le-mul}
 use native.Mathlib.Omega.{arith}
 use borrow.Author.Needs.{needs}
 use Rattle.segments.proofs.ramps.reading_in.Statement.{statement}

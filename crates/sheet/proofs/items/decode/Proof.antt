@@ -1,6 +1,6 @@
 use Rattle.sheet.proofs.Forms.{empty, of-kind, unknown}
 use Rattle.sheet.specs.Items.{byKind}
-use mathlib.Core.Path.{_≡_, refl, _∙_}
+use mathlib.Core.Path.{refl, _∙_}
 use borrow.Author.Needs.{needs}
 use Rattle.sheet.proofs.items.decode.Statement.{statement}
 use Rattle.sheet.proofs.items.decode.Tie as tie

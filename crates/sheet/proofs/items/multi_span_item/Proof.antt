@@ -1,7 +1,7 @@
 use Rattle.sheet.proofs.Forms.{sized-no, sized-yes}
 use Rattle.sheet.specs.Items.{multiSpanItem}
 use native.Mathlib.Omega.{arith}
-use mathlib.Core.Path.{_∙_, refl}
+use mathlib.Core.Path.{_∙_}
 use borrow.Author.Needs.{needs}
 use Rattle.sheet.proofs.items.multi_span_item.Statement.{statement}
 use Rattle.sheet.proofs.items.multi_span_item.Tie as tie

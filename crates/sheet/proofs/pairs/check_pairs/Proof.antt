@@ -2,7 +2,7 @@ use mathlib.Core.Path.{sym}
 use Rattle.sheet.proofs.Turns.{turn-refused, turn-next, turn-end, turn-start, pair-early, pair-past, pair-sound}
 use Rattle.sheet.specs.Sheet.{earliest, pairNumber, inTurn}
 use Prim.Native.Nat.{_≤_, _-_}
-use mathlib.Core.Path.{_≡_, refl, _∙_}
+use mathlib.Core.Path.{_≡_, _∙_}
 use native.Mathlib.Numerals.{add-one}
 use native.Mathlib.Omega.{arith}
 use Rattle.sheet.proofs.pairs.check_pairs.Statement.{statement}

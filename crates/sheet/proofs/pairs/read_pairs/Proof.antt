@@ -3,7 +3,7 @@ use Rattle.sheet.proofs.Turns.{fitting, too-short, outside, inside}
 use borrow.Author.Tests.{not-true, not-false}
 use denote.Ref.{now}
 use lib.ListN.{length}
-use mathlib.Core.Path.{_≡_, sym, ap, _∙_}
+use mathlib.Core.Path.{_∙_}
 use borrow.Author.Needs.{needs}
 use Rattle.sheet.proofs.pairs.read_pairs.Statement.{statement}
 use Rattle.sheet.proofs.pairs.read_pairs.Tie as tie

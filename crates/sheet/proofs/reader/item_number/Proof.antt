@@ -1,7 +1,7 @@
 use Rattle.sheet.specs.Items.{content}
 use denote.Ref.{now}
 use Rattle.sheet.proofs.Places.{later}
-use mathlib.Core.Path.{_≡_, sym, ap, _∙_}
+use mathlib.Core.Path.{_∙_}
 use borrow.Author.Needs.{needs}
 use Rattle.sheet.proofs.reader.item_number.Statement.{statement}
 use Rattle.sheet.proofs.reader.item_number.Tie as tie

@@ -1,6 +1,6 @@
 use Rattle.sheet.proofs.Kept.{sheet-refused, sheet-items}
 use Rattle.sheet.specs.Sheet.{verdictMeans}
-use mathlib.Core.Path.{_≡_, sym, ap, _∙_}
+use mathlib.Core.Path.{sym, ap, _∙_}
 use borrow.Author.Needs.{needs}
 use Rattle.sheet.proofs.reader.read.Statement.{statement}
 use Rattle.sheet.proofs.reader.read.Tie as tie
