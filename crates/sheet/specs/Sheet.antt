@@ -18,7 +18,7 @@ pub data Answer (A : Type 0) : Type 0 where
   accepted : A → Answer A
   refused : ℕ → ℕ → Answer A
 
--- "at most 32 items and 16,384 bytes": the ceilings of the terminals
+-- the ceilings of the terminals: n up to 32, a sheet up to 16,384 bytes
 abbrev pub terminals : Ceiling
 terminals = record { items = 32; bytes = 16384 }
 
