@@ -1,6 +1,6 @@
 // The shape coefficients over one denominator each.
 ghost use mathlib.Core.Path.{_≡_};
-ghost use Prim.Native.Nat.{_+_, _*_, _≤_};
+ghost use Prim.Native.Nat.{_+_, _*_, _≤_, min, max};
 ghost use Rattle.standard.proofs.Handy.{mu1Num, slopeNum, mu2Num, mu3Num, windNum, slideNum, obstacleNum};
 ghost use Rattle.standard.specs.Bounds.{NationalIn};
 use crate::limits::least;
@@ -46,14 +46,21 @@ pub fn arch_over_span(national: National, rise: u64, span: u64) -> u64
     least(national.arch as u64 * span, 20 * span + 1_000 * rise)
 }
 
-// 200 × h × sk times μw: limited above by 2h/sk and the upper value, then below by the lower value (5.3.6).
+// A number limited above by depth and by high, then below by low: the order of the limits on μw (5.3.6).
+fn limited(x: u64, depth: u64, high: u64, low: u64) -> u64
+    ensures { λ r. ⌜ r ≡ max low (min high (min depth x)) ⌝ }
+{
+    most(low, least(high, least(depth, x)))
+}
+
+// 200 × h × sk times μw, limited above by 2h/sk and the upper value, then below by the lower value (5.3.6).
 pub fn wind_over_depth(national: National, b: u64, h: u64, sk: u64) -> u64
     requires { ⌜ NationalIn national × (b ≤ 200000) × (h ≤ 30000) × (sk ≤ 25000) ⌝ }
     ensures { λ r. ⌜ (r ≡ windNum national b h sk) × (r ≤ 1600 * h * sk) ⌝ }
 {
-    let depth = least(400 * h * h, 100 * b * sk);
-    let limited = least(2 * h * (national.high as u64) * sk, depth);
-    most(2 * h * (national.low as u64) * sk, limited)
+    let high = 2 * h * (national.high as u64) * sk;
+    let low = 2 * h * (national.low as u64) * sk;
+    limited(100 * b * sk, 400 * h * h, high, low)
 }
 
 // 375 × ls times μs: 0 up to 15.0°, above that μ1 of the slope times its width (5.3.6).
