@@ -1,0 +1,49 @@
+// The force of sliding snow at a guard (6.4).
+ghost use mathlib.Core.Path.{_≡_};
+ghost use Prim.Native.Nat.{_≤_};
+ghost use Rattle.figures.specs.Bounds.{SlopeIn};
+ghost use Rattle.local_forces.specs.Answers.{forceMeans};
+ghost use Rattle.rounding.specs.Up.{ceilDiv};
+ghost use Rattle.standard.specs.Forces.{guardForce, guardAnswer};
+use crate::answers::LocalForce;
+use crate::rules::values_refusal;
+use crate::sine::sine;
+use crate::slopes::RoofSlope;
+use crate::slopes::slope_of;
+use crate::slopes::whole_load;
+use figures::Roof;
+use figures::Site;
+use figures::Slope;
+
+// A count of billionths, rounded up to a whole number.
+fn whole_number(billionths: u64) -> u64
+    ensures { λ r. ⌜ r ≡ ceilDiv billionths 1000000000 ⌝ }
+{
+    rounding::ceil_div(billionths, 1_000_000_000)
+}
+
+// 6.4 (6.5): S × width/1,000 × sine, rounded up; the width is in mm, the sine in millionths.
+fn sliding_force(s: u64, slope: Slope) -> u64
+    requires { ⌜ (s ≤ 24000) × SlopeIn slope ⌝ }
+    ensures { λ r. ⌜ (r ≡ guardForce s (slope .width) (slope .pitch)) × (r ≤ 2400000) ⌝ }
+{
+    whole_number(s * slope.width as u64 * sine(slope.pitch))
+}
+
+// The force at the guard of a slope.
+pub fn guard_force(site: Site, roof: Roof, slope: u8) -> LocalForce
+    ensures { λ r. ⌜ forceMeans r ≡ guardAnswer site roof slope ⌝ }
+{
+    let refusal = values_refusal(site, roof);
+    if refusal != 0 {
+        return LocalForce::Refused(refusal);
+    }
+    let shape = roof.shape;
+    let RoofSlope::Found { slope: side, guard } = slope_of(shape, slope) else {
+        return LocalForce::NoForce;
+    };
+    if guard != 1 {
+        return LocalForce::NoForce;
+    }
+    LocalForce::Newtons(sliding_force(whole_load(site, side, guard), side) as u32)
+}

@@ -1,0 +1,70 @@
+// A roof's slopes by their numbers, and the load S on one.
+ghost use mathlib.Core.Path.{_≡_};
+ghost use Prim.Native.Nat.{_≤_};
+ghost use Rattle.figures.specs.Bounds.{SiteIn};
+ghost use Rattle.local_forces.specs.Answers.{slopeMeans};
+ghost use Rattle.standard.specs.Forces.{slopeAt, wholeLoad};
+use figures::Shape;
+use figures::Site;
+use figures::Slope;
+
+// The persistent code of the undrifted load.
+const UNDRIFTED: u8 = 1;
+
+// A slope of a roof with its guard, or none of that number.
+pub enum RoofSlope {
+    Found { slope: Slope, guard: u8 },
+    Missing,
+}
+
+// The slope of a roof by its number: 1 left or only, 2 right. Kinds 2 and 3 alone have slopes here.
+pub fn slope_of(shape: Shape, number: u8) -> RoofSlope
+    ensures { λ r. ⌜ slopeMeans r ≡ slopeAt shape number ⌝ }
+{
+    match shape {
+        Shape::Monopitch { slope, guard } => {
+            if number == 1 {
+                return RoofSlope::Found { slope, guard };
+            }
+            RoofSlope::Missing
+        }
+        Shape::Pitched {
+            left,
+            right,
+            left_guard,
+            right_guard,
+        } => {
+            if number == 1 {
+                return RoofSlope::Found {
+                    slope: left,
+                    guard: left_guard,
+                };
+            }
+            if number == 2 {
+                return RoofSlope::Found {
+                    slope: right,
+                    guard: right_guard,
+                };
+            }
+            RoofSlope::Missing
+        }
+        Shape::MultiSpan { .. } => RoofSlope::Missing,
+        Shape::Cylindrical { .. } => RoofSlope::Missing,
+        Shape::Abutting { .. } => RoofSlope::Missing,
+        Shape::Projection { .. } => RoofSlope::Missing,
+    }
+}
+
+// S, the slope's code 1 load in N/m².
+pub fn whole_load(site: Site, slope: Slope, guard: u8) -> u64
+    requires { ⌜ SiteIn site × (guard ≤ 1) ⌝ }
+    ensures { λ r. ⌜ (r ≡ wholeLoad site slope guard) × (r ≤ 24000) ⌝ }
+{
+    loads::slope_load(
+        slope,
+        guard,
+        false,
+        segments::factor(site, UNDRIFTED),
+        site.sk as u64,
+    )
+}

@@ -1,0 +1,295 @@
+-- What is owed on the local forces: their distance from the rules over the unrounded S and the sine's reference.
+use Prim.Native.Nat.{ℕ, _+_, _-_, _*_, _≤_, _<_, min}
+use mathlib.Core.Path.{_≡_, refl, sym, ap, subst}
+use mathlib.Core.Bool.{Bool, true, false, cond}
+use mathlib.Core.List.{List}
+use lib.Dec.{eqb}
+use native.Mathlib.Decide.{decLe}
+use native.Mathlib.Nat.{add-sub-of-le, one-mul, mul-le-mul, mul-le-mul-left, mul-le-mul-right, mul-lt-mul-of-pos-right, mul-pos, le-of-lt, le-of-mul-le-mul-right, min-eq-left, min-eq-right}
+use native.Mathlib.Omega.{arith}
+use Rattle.figures.specs.Bounds.{SiteIn, SlopeIn, ShapeIn}
+use Rattle.figures.specs.RoofRules.{roofRefusal}
+use Rattle.figures.specs.SiteRules.{siteRefusal}
+use Rattle.figures.specs.declared.site.Site.{Site}
+use Rattle.figures.specs.declared.roof.Span.{Span}
+use Rattle.figures.specs.declared.roof.Slope.{Slope}
+use Rattle.figures.specs.declared.roof.Shape.{Shape}
+use Rattle.figures.specs.declared.roof.Shape.the-variants.{Monopitch, Pitched, MultiSpan, Cylindrical, Abutting, Projection}
+use Rattle.figures.specs.declared.roof.Roof.{Roof}
+use Rattle.figures.proofs.Accepted.{site-in, roof-in}
+use Rattle.rounding.specs.Fraction.{Fraction, over, sum, AtMost, Under, Below, Same, Close}
+use Rattle.rounding.specs.Load.{alone, exact, breakLoad}
+use Rattle.rounding.specs.Up.{ceilDiv, roundedUp}
+use Rattle.rounding.proofs.Rounding.{reaches, near, least, whole, up-close, up-least}
+use Rattle.rounding.proofs.Ramps.{close-whole}
+use Rattle.rounding.proofs.Limits.{smaller-is, smaller-mono, smaller-positive}
+use Rattle.standard.specs.Arrangements.{factorOf}
+use Rattle.standard.specs.Coefficients.{slopeMu}
+use Rattle.standard.specs.Forces.{SlopeAt, noSlope, someSlope, slopeAt, slopeLoad, wholeLoad, overhangRule, overhangForce, guardRule, guardForce}
+use Rattle.standard.specs.Sine.{sineReference, sineEntry}
+use Rattle.standard.specs.Stretch.{load}
+use Rattle.standard.proofs.Handy.{mu1Num, slopeNum, slope-mu-positive, slope-mu-is}
+use Rattle.standard.proofs.Loads.{load-positive}
+use Rattle.standard.proofs.Sine.{sine-nearest, sine-most}
+
+-- a slope that an accepted roof has
+pub record SideIn (s : Slope) (g : ℕ) : Type 0 where
+  pub slope : SlopeIn s
+  pub guard : g ≤ 1
+
+sides : SlopeAt → Type 0
+sides noSlope = Unit
+sides (someSlope slope guard) = SideIn slope guard
+
+chosen : (a b : SlopeAt) (t : Bool) → sides a → sides b → sides (cond t a b)
+chosen a b true p q = p
+chosen a b false p q = q
+
+shape-sides : (shape : Shape) (spans : List Span) (n : ℕ) → ShapeIn shape spans → sides (slopeAt shape n)
+unfolding slopeAt sides
+shape-sides (Monopitch slope guard) spans n f = chosen _ _ (eqb n 1) (record { slope = f .slope; guard = f .guard }) tt
+shape-sides (Pitched left right leftGuard rightGuard) spans n f =
+    chosen (someSlope left leftGuard) (cond (eqb n 2) (someSlope right rightGuard) noSlope) (eqb n 1)
+    (record { slope = f .left; guard = f .left-guard })
+    (chosen (someSlope right rightGuard) noSlope (eqb n 2) (record { slope = f .right; guard = f .right-guard }) tt)
+shape-sides (MultiSpan count) spans n f = tt
+shape-sides (Cylindrical rise span) spans n f = tt
+shape-sides (Abutting b1 b2 h slope guard) spans n f = tt
+shape-sides (Projection h left right) spans n f = tt
+
+pub side-in :
+    (roof : Roof) (n : ℕ) (slope : Slope) (guard : ℕ) → roofRefusal roof ≡ 0 → slopeAt (roof .shape) n ≡ someSlope slope guard
+    → SideIn slope guard
+unfolding sides
+side-in roof n slope guard hr e = subst (λ (s : SlopeAt). sides s) e (shape-sides (roof .shape) (roof .spans) n (roof-in roof hr))
+
+-- S is at most 24,000: μ1 at most 0.8, Ce at most 1.2, Ct at most 1, sk at most 25,000
+mu-most : (slope : Slope) (guard : ℕ) → guard ≤ 1 → 375 * slopeMu slope guard .num ≤ 300 * slopeMu slope guard .den
+unfolding slopeNum mu1Num Same
+mu-most slope guard h =
+    let top : slopeNum (slope .pitch) guard ≤ 300 = omega arith in
+    omega (arith, slope-mu-is slope guard h, mul-le-mul-right (slopeMu slope guard .den) top)
+
+factor-most : (site : Site) → SiteIn site → factorOf site 1 ≤ 1200000
+unfolding factorOf
+factor-most site h = omega (arith, mul-le-mul (h .ce .high) (h .ct .high))
+
+load-most : (n d f s : ℕ) → 375 * n ≤ 300 * d → f ≤ 1200000 → s ≤ 25000 → n * f * s ≤ 24000 * (d * 1000000)
+load-most n d f s p q r =
+    let t : f * s ≤ 1200000 * 25000 = mul-le-mul q r in
+    omega (arith, mul-le-mul-right 80000000 p, mul-le-mul-left n t)
+
+nothing : roundedUp 1 (over 0 1) ≡ 0
+unfolding roundedUp ceilDiv
+nothing = refl
+
+alone-up : (f : Fraction) → breakLoad 1 (alone f) ≡ roundedUp 1 f
+unfolding breakLoad
+alone-up f = omega (arith, nothing)
+
+alone-most : (m : ℕ) (f : Fraction) → 0 < f .den → f .num ≤ m * f .den → breakLoad 1 (alone f) ≤ m
+alone-most m f h p = rw (alone-up f) (up-least 1 m f h (omega arith))
+
+pub whole-most : (site : Site) (slope : Slope) (guard : ℕ) → SiteIn site → guard ≤ 1 → wholeLoad site slope guard ≤ 24000
+unfolding wholeLoad slopeLoad load
+whole-most site slope guard h g =
+    alone-most 24000 _ (load-positive (slopeMu slope guard) (factorOf site 1) (site .sk) (slope-mu-positive slope guard))
+    (load-most _ _ _ _ (mu-most slope guard g) (factor-most site h) (h .sk .high))
+
+-- S is the exact load rounded up, so less than 1 above it.
+alone-close : (f : Fraction) → 0 < f .den → Close 1 1 (breakLoad 1 (alone f)) (exact (alone f))
+unfolding exact sum
+alone-close f h = rw (alone-up f) (record { low = omega (arith, up-close 1 f h .low); high = omega (arith, up-close 1 f h .high) })
+
+module _ (site : Site) (slope : Slope) (guard : ℕ) where
+  slope-load-positive : 0 < exact (slopeLoad site slope guard) .den
+  unfolding exact sum slopeLoad
+  slope-load-positive = omega (arith, load-positive (slopeMu slope guard) (factorOf site 1) (site .sk) (slope-mu-positive slope guard))
+
+  whole-close : Close 1 1 (wholeLoad site slope guard) (exact (slopeLoad site slope guard))
+  unfolding wholeLoad slopeLoad
+  whole-close = alone-close _ (load-positive (slopeMu slope guard) (factorOf site 1) (site .sk) (slope-mu-positive slope guard))
+
+-- 3S is whole, so the limit is put on the rounded figure as well as on the exact one.
+pub overhang-is : (s : ℕ) → overhangForce s ≡ min (3 * s) (ceilDiv (s * s * s) 3000000)
+unfolding overhangForce overhangRule roundedUp Below
+overhang-is s =
+    smaller-is (λ f. ceilDiv (1 * f .num) (f .den) ≡ min (3 * s) (ceilDiv (s * s * s) 3000000)) _ _
+    (λ p.
+    let t : ceilDiv (1 * (3 * s)) 1 ≡ 3 * s = whole (1 * (3 * s)) 1 (3 * s) (omega arith) (omega arith) in
+    let r : 3 * s * 3000000 ≤ ceilDiv (s * s * s) 3000000 * 3000000 = omega (arith, reaches (s * s * s) 3000000 (omega arith)) in
+    rw t (sym (min-eq-left (le-of-mul-le-mul-right r (omega arith)))))
+    (λ p.
+    let t : 1 * (s * s * s) ≡ s * s * s = omega arith in
+    rw t (sym (min-eq-right (least (s * s * s) 3000000 (3 * s) (omega arith) (omega arith)))))
+
+-- The cube of a, where a is at most d above n, is at most 3a²d above the cube of n.
+cube-over : (n t d : ℕ) → t ≤ d → (n + t) * (n + t) * (n + t) ≤ n * n * n + 3 * ((n + t) * (n + t)) * d
+cube-over n t d h = omega (arith, mul-le-mul-right (n * n) h, mul-le-mul-right (n * t) h, mul-le-mul-right (t * t) h)
+
+cube-rise : (n a d : ℕ) → n ≤ a → a ≤ n + d → a * a * a ≤ n * n * n + 3 * (a * a) * d
+cube-rise n a d p q =
+    subst (λ (z : ℕ). z * z * z ≤ n * n * n + 3 * (z * z) * d) (add-sub-of-le p) (cube-over n (a - n) d (omega arith))
+
+-- S over the unrounded n / d, and a force r over S
+module _ (n d s r : ℕ) (low : n ≤ s * d) (high : s * d < n + d) where
+  limit-near : r ≤ 3 * s → r * d < 3 * n + 10 * d
+  limit-near p = omega (arith, mul-le-mul-right d p)
+
+  -- Up to 3,000 the cube rises by less than 27,000,000 from n / d to S.
+  cube-near-low : 0 < d → s ≤ 3000 → r * 3000000 < s * s * s + 3000000 → r * (3000000 * (d * d * d)) < n * n * n + 10 * (3000000 * (d * d * d))
+  cube-near-low h p q =
+      let c : s * d * (s * d) * (s * d) ≤ n * n * n + 3 * (s * d * (s * d)) * d = cube-rise n (s * d) d low (le-of-lt high) in
+      let t : s * s * (d * d * d) ≤ 9000000 * (d * d * d) = mul-le-mul-right (d * d * d) (mul-le-mul p p) in
+      let u : r * 3000000 * (d * d * d) < (s * s * s + 3000000) * (d * d * d) = mul-lt-mul-of-pos-right q (mul-pos (mul-pos h h) h) in
+      omega arith
+
+  -- Above it the cube's share is at least three times n / d, and the force at most 3S.
+  cube-near-high : 0 < d → 3000 < s → r ≤ 3 * s → r * (3000000 * (d * d * d)) < n * n * n + 10 * (3000000 * (d * d * d))
+  cube-near-high h p q =
+      let a : 3000 * d ≤ n = omega (arith, mul-le-mul-right d p) in
+      let b : 9000000 * (d * d) * n ≤ n * n * n = mul-le-mul-right n (omega (arith, mul-le-mul a a)) in
+      let t : r * d * (d * d) ≤ 3 * s * d * (d * d) = mul-le-mul-right (d * d) (mul-le-mul-right d q) in
+      let u : s * d * (d * d) < (n + d) * (d * d) = mul-lt-mul-of-pos-right high (mul-pos h h) in
+      omega arith
+
+  cube-near : 0 < d → r * 3000000 < s * s * s + 3000000 → r ≤ 3 * s → r * (3000000 * (d * d * d)) < n * n * n + 10 * (3000000 * (d * d * d))
+  cube-near h q t =
+      elim (decLe s 3000) [
+        | yes p ↦ cube-near-low h p q
+        | no p ↦ cube-near-high h (omega arith) t
+      ]
+
+-- r over f, where r is not below g and f not above g
+below-at-most : (f g : Fraction) (r : ℕ) → 0 < g .den → Below f g → AtMost g r → AtMost f r
+unfolding Below AtMost
+below-at-most f g r h p q =
+    let t : f .num * g .den ≤ r * f .den * g .den = omega (arith, mul-le-mul-right (f .den) q) in
+    le-of-mul-le-mul-right t h
+
+-- the two of which the overhang is the smaller
+abbrev limit : Fraction → Fraction
+limit f = over (3 * f .num) (f .den)
+
+abbrev cubed : Fraction → Fraction
+cubed f = over (f .num * f .num * f .num) (3000000 * (f .den * f .den * f .den))
+
+module _ (x : Fraction) (s : ℕ) (h : 0 < x .den) (c : Close 1 1 s x) where
+  cubed-positive : 0 < cubed x .den
+  cubed-positive = omega (arith, mul-pos (mul-pos h h) h)
+
+  rule-positive : 0 < overhangRule x .den
+  unfolding overhangRule
+  rule-positive = smaller-positive (limit x) (cubed x) h cubed-positive
+
+  whole-rule-positive : 0 < overhangRule (over s 1) .den
+  unfolding overhangRule
+  whole-rule-positive = smaller-positive (limit (over s 1)) (cubed (over s 1)) (omega arith) (omega arith)
+
+  rule-rises : Below (overhangRule x) (overhangRule (over s 1))
+  unfolding overhangRule Below
+  rule-rises =
+      smaller-mono (limit x) (cubed x) (limit (over s 1)) (cubed (over s 1))
+      (omega (arith, c .low))
+      (omega (arith, mul-le-mul (mul-le-mul (c .low) (c .low)) (c .low)))
+      h cubed-positive
+
+  overhang-low : AtMost (overhangRule x) (overhangForce s)
+  unfolding overhangForce
+  overhang-low =
+      below-at-most (overhangRule x) (overhangRule (over s 1)) _ whole-rule-positive rule-rises
+      (close-whole 1 _ (overhangRule (over s 1)) (up-close 1 (overhangRule (over s 1)) whole-rule-positive) .0)
+
+  overhang-high : Under (overhangForce s) (overhangRule x) 10
+  unfolding overhangRule Under
+  overhang-high =
+      let r = overhangForce s in
+      let m : r ≤ 3 * s = omega (arith, overhang-is s) in
+      let k : r * 3000000 < s * s * s + 3000000 = omega (arith, overhang-is s, near (s * s * s) 3000000 (omega arith)) in
+      let low : x .num ≤ s * x .den = omega (arith, c .low) in
+      let high : s * x .den < x .num + x .den = omega (arith, c .high) in
+      smaller-is (λ f. r * f .den < f .num + 10 * f .den) (limit x) (cubed x)
+      (λ p. limit-near (x .num) (x .den) s r low high m)
+      (λ p. cube-near (x .num) (x .den) s r low high h k m)
+
+-- r is not below f, and less than 10 above it
+pub record OverhangNear (r : ℕ) (f : Fraction) : Type 0 where
+  pub positive : 0 < f .den
+  pub low : AtMost f r
+  pub high : Under r f 10
+
+-- Over the unrounded n / d and the reference N / D, with S above n / d and e millionths for N / D.
+module _ (n d s w e N D r : ℕ) (hd : 0 < d) (hD : 0 < D) (hs : s ≤ 24000) (hw : w ≤ 100000) where
+  slopes-snow : s * w * (d * D) ≤ 2400000000 * (d * D)
+  slopes-snow = mul-le-mul-right (d * D) (mul-le-mul hs hw)
+
+  sliding-low : n ≤ s * d → 2 * (1000000 * N) ≤ (2 * e + 1) * D → s * w * e ≤ r * 1000000000 → n * w * N < (r + 2) * (d * 1000 * D)
+  sliding-low a b c =
+      let p : n * (w * N) ≤ s * d * (w * N) = mul-le-mul-right (w * N) a in
+      let q : 2 * (1000000 * N) * (s * w * d) ≤ (2 * e + 1) * D * (s * w * d) = mul-le-mul-right (s * w * d) b in
+      let t : s * w * e * (d * D) ≤ r * 1000000000 * (d * D) = mul-le-mul-right (d * D) c in
+      omega (arith, slopes-snow, mul-pos hd hD)
+
+  sliding-high :
+      s * d < n + d → e ≤ 1000000 → 2 * (1000000 * N) ≤ (2 * e + 1) * D → 2 * e * D ≤ 2 * (1000000 * N) + D → r * 1000000000 < s * w * e + 1000000000
+      → r * (d * 1000 * D) * 1000 < n * w * N * 1000 + (w + 3000) * (d * 1000 * D)
+  sliding-high a m l b c =
+      let one : 2000000 * N ≤ 2000001 * D = omega (arith, mul-le-mul-right D m) in
+      let p : s * d * (w * N) ≤ (n + d) * (w * N) = mul-le-mul-right (w * N) (le-of-lt a) in
+      let q : 2 * e * D * (s * w * d) ≤ (2 * (1000000 * N) + D) * (s * w * d) = mul-le-mul-right (s * w * d) b in
+      let t : r * 1000000000 * (d * D) < (s * w * e + 1000000000) * (d * D) = mul-lt-mul-of-pos-right c (mul-pos hd hD) in
+      let u : 2000000 * N * (d * w) ≤ 2000001 * D * (d * w) = mul-le-mul-right (d * w) one in
+      let v : w * (d * D) ≤ 100000 * (d * D) = mul-le-mul-right (d * D) hw in
+      omega (arith, slopes-snow)
+
+-- r is less than 2 below f, and less than the width in metres plus 3 above it; the width is in mm
+pub record GuardNear (r width : ℕ) (f : Fraction) : Type 0 where
+  pub positive : 0 < f .den
+  pub low : f .num < (r + 2) * f .den
+  pub high : r * f .den * 1000 < f .num * 1000 + (width + 3000) * f .den
+
+module _ (s width pitch : ℕ) where
+  pub guard-is : guardForce s width pitch ≡ ceilDiv (s * width * sineEntry pitch) 1000000000
+  unfolding guardForce guardRule roundedUp
+  guard-is = ap (λ (n : ℕ). ceilDiv n 1000000000) (one-mul (s * width * sineEntry pitch))
+
+  module _ (hs : s ≤ 24000) (hw : width ≤ 100000) (hp : pitch ≤ 800) where
+    pub guard-most : guardForce s width pitch ≤ 2400000
+    guard-most =
+        rw guard-is
+        (least (s * width * sineEntry pitch) 1000000000 2400000 (omega arith) (mul-le-mul (mul-le-mul hs hw) (sine-most pitch hp)))
+
+    guard-near : (x : Fraction) → 0 < x .den → Close 1 1 s x → GuardNear (guardForce s width pitch) width (guardRule x width (sineReference pitch))
+    unfolding guardRule
+    guard-near x h c =
+        let b = sine-nearest pitch in
+        let n = s * width * sineEntry pitch in
+        let f = sineReference pitch in
+        let up : n ≤ guardForce s width pitch * 1000000000 = rw guard-is (reaches n 1000000000 (omega arith)) in
+        let under : guardForce s width pitch * 1000000000 < n + 1000000000 = rw guard-is (near n 1000000000 (omega arith)) in
+        record {
+          positive = mul-pos (mul-pos h (omega arith)) (b .positive);
+          low = sliding-low (x .num) (x .den) s width (sineEntry pitch) (f .num) (f .den) _ h (b .positive) hs hw (omega (arith, c .low)) (b .low) up;
+          high = sliding-high (x .num) (x .den) s width (sineEntry pitch) (f .num) (f .den) _ h (b .positive) hs hw (omega (arith, c .high)) (sine-most pitch hp) (b .low) (b .high) under;
+        }
+
+-- the theorems: the overhang's holds of any figures, the guard's of accepted ones
+pub overhang-distance :
+    (site : Site) (slope : Slope) (guard : ℕ)
+    → OverhangNear (overhangForce (wholeLoad site slope guard)) (overhangRule (exact (slopeLoad site slope guard)))
+overhang-distance site slope guard =
+    let x = exact (slopeLoad site slope guard) in
+    let h = slope-load-positive site slope guard in
+    let c = whole-close site slope guard in
+    record { positive = rule-positive x _ h c; low = overhang-low x _ h c; high = overhang-high x _ h c }
+
+module _ (site : Site) (roof : Roof) (n : ℕ) (slope : Slope) (guard : ℕ)
+    (hs : siteRefusal site ≡ 0) (hr : roofRefusal roof ≡ 0) (e : slopeAt (roof .shape) n ≡ someSlope slope guard) where
+  pub guard-distance :
+      GuardNear (guardForce (wholeLoad site slope guard) (slope .width) (slope .pitch)) (slope .width)
+      (guardRule (exact (slopeLoad site slope guard)) (slope .width) (sineReference (slope .pitch)))
+  guard-distance =
+      let side = side-in roof n slope guard hr e in
+      guard-near (wholeLoad site slope guard) (slope .width) (slope .pitch)
+      (whole-most site slope guard (site-in site hs) (side .guard)) (side .slope .width .high) (side .slope .pitch)
+      (exact (slopeLoad site slope guard)) (slope-load-positive site slope guard) (whole-close site slope guard)
