@@ -1,0 +1,54 @@
+-- The segments before i are passed.
+use Prim.Native.Nat.{_≤_, _-_}
+use borrow.Author.Needs.{needs}
+use Rattle.second.proofs.station.load_read.Statement.{statement}
+use Rattle.second.proofs.station.load_read.Tie as tie
+
+abbrev Inv-loop : tie.InvT-loop
+Inv-loop ground roof code station count load₀ i₀ load i = i ≤ count
+
+abbrev μ-loop : tie.MeasureT-loop
+μ-loop ground roof code station count load₀ i₀ load i = count - i
+
+segment-count-requires : tie.Need-segment-count-requires Inv-loop μ-loop
+segment-count-requires c κs = search needs
+
+loop-holds : tie.Need-loop-holds Inv-loop μ-loop
+loop-holds c = search needs
+
+segment-at-requires : tie.Need-segment-at-requires Inv-loop μ-loop
+segment-at-requires c κs = search needs
+
+load-if-held-requires : tie.Need-load-if-held-requires Inv-loop μ-loop
+load-if-held-requires c κs = search needs
+
+greater-requires : tie.Need-greater-requires Inv-loop μ-loop
+greater-requires c κs = search needs
+
+add-i : tie.Need-add-i Inv-loop μ-loop
+add-i c = search needs
+
+loop-less : tie.Need-loop-less Inv-loop μ-loop
+loop-less c = search needs
+
+loop-again : tie.Need-loop-again Inv-loop μ-loop
+loop-again c = search needs
+
+returns : tie.Need-returns Inv-loop μ-loop
+returns c = search needs
+
+pub load-read-spec : {M : Type 1} → statement M
+load-read-spec =
+    tie.close
+    (tie.spec
+    Inv-loop
+    μ-loop
+    segment-count-requires
+    loop-holds
+    segment-at-requires
+    load-if-held-requires
+    greater-requires
+    add-i
+    loop-less
+    loop-again
+    returns)

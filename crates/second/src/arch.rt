@@ -1,0 +1,115 @@
+// Kind 5: a cylindrical roof.
+ghost use Prim.Native.Nat.{_≤_, _<_};
+use super::coefficient::eight_tenths;
+use super::coefficient::halved;
+use super::coefficient::nothing;
+use super::coefficient::on_arch;
+use super::figure::difference;
+use super::figure::multiple;
+use super::figure::quarters;
+use super::figure::sum;
+use super::number::not_above;
+use super::number::times;
+use super::number::whole;
+use super::segment::Segment;
+use super::segment::even;
+use super::segment::uncut;
+
+// Whether (8 × rise × width)² ≥ 3(span² + 4 × rise²)².
+fn reaches_edge(rise: u32, span: u32, width: u32) -> bool {
+    let left = multiple(multiple(8, rise), width);
+    let right = sum(multiple(span, span), multiple(4, multiple(rise, rise)));
+    not_above(
+        times(times(whole(right), right), 3),
+        times(whole(left), left),
+    )
+}
+
+// The loaded width ls: the span if 12 × rise² ≤ span², else the least width that reaches the edge.
+pub fn loaded_width(rise: u32, span: u32) -> u32 {
+    if multiple(12, multiple(rise, rise)) <= multiple(span, span) {
+        return span;
+    }
+    let mut from: u32 = 0;
+    let mut to = span;
+    while from < to {
+        let middle = from + (to - from) / 2;
+        if reaches_edge(rise, span, middle) {
+            to = middle;
+        } else {
+            from = middle + 1;
+        }
+    }
+    from
+}
+
+// What is left bare at each end: half of the span less ls, in quarter millimetres.
+pub fn bare_edge(rise: u32, span: u32) -> u32 {
+    multiple(difference(span, loaded_width(rise, span)), 2)
+}
+
+// On ls: one even stretch, or the four legs of two triangles.
+fn loaded_count(code: u8) -> usize
+    ensures { λ r. ⌜ (1 ≤ r) × (r ≤ 4) ⌝ }
+{
+    if code == 1 { 1 } else { 4 }
+}
+
+pub fn arch_count(rise: u32, span: u32, code: u8) -> usize
+    ensures { λ r. ⌜ (1 ≤ r) × (r ≤ 6) ⌝ }
+{
+    let edge = bare_edge(rise, span);
+    if edge == 0 {
+        return loaded_count(code);
+    }
+    loaded_count(code) + 2
+}
+
+// Code 1: 0.8 on ls.
+fn even_arch(rise: u32, span: u32) -> Segment {
+    let edge = bare_edge(rise, span);
+    even(edge, difference(quarters(span), edge), eight_tenths())
+}
+
+// Code 2: the legs of two triangles, each leg a quarter of ls, with the peaks 0.5μ3 and μ3.
+fn leg(rise: u32, span: u32, k: u32) -> Segment {
+    let quarter = loaded_width(rise, span);
+    let start = sum(bare_edge(rise, span), multiple(k, quarter));
+    let end = sum(start, quarter);
+    let peak = on_arch(rise, span);
+    if k == 0 {
+        uncut(start, end, nothing(), halved(peak))
+    } else if k == 1 {
+        uncut(start, end, halved(peak), nothing())
+    } else if k == 2 {
+        uncut(start, end, nothing(), peak)
+    } else {
+        uncut(start, end, peak, nothing())
+    }
+}
+
+fn loaded_part(rise: u32, span: u32, code: u8, k: u32) -> Segment {
+    if code == 1 {
+        even_arch(rise, span)
+    } else {
+        leg(rise, span, k)
+    }
+}
+
+// The segment at an index: outside ls the load is 0.
+pub fn on_cylinder(rise: u32, span: u32, code: u8, i: usize) -> Segment
+    requires { ⌜ i < 32 ⌝ }
+{
+    let edge = bare_edge(rise, span);
+    if edge == 0 {
+        return loaded_part(rise, span, code, i as u32);
+    }
+    if i == 0 {
+        return even(0, edge, nothing());
+    }
+    if i <= loaded_count(code) {
+        return loaded_part(rise, span, code, (i - 1) as u32);
+    }
+    let end = quarters(span);
+    even(difference(end, edge), end, nothing())
+}

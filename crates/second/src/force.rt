@@ -1,0 +1,90 @@
+// Local forces, over the whole load S of a slope.
+ghost use Prim.Native.Nat.{_≤_};
+use super::figure::multiple;
+use super::load::ground_of;
+use super::load::load_on;
+use super::number::least;
+use super::number::times;
+use super::number::whole;
+use super::roof::segment_at;
+use super::series::sine;
+use figures::Roof;
+use figures::Shape;
+use figures::Site;
+use figures::Slope;
+
+// In the place of a force where there is none.
+pub const NO_FORCE: u32 = 4_294_967_295;
+
+// Kind 2 has slope 1, kind 3 slopes 1 and 2, other kinds none.
+fn has_slope(shape: Shape, number: u8) -> bool {
+    match shape {
+        Shape::Monopitch { .. } => number == 1,
+        Shape::Pitched { .. } => (number == 1) | (number == 2),
+        _ => false,
+    }
+}
+
+// The pitch, the width and the guard of a slope that the roof has.
+fn pitch_width_guard(shape: Shape, number: u8) -> [u32; 3] {
+    match shape {
+        Shape::Monopitch { slope, guard } => figures_of(slope, guard),
+        Shape::Pitched {
+            left,
+            right,
+            left_guard,
+            right_guard,
+        } => {
+            if number == 2 {
+                return figures_of(right, right_guard);
+            }
+            figures_of(left, left_guard)
+        }
+        _ => [0, 0, 0],
+    }
+}
+
+fn figures_of(slope: Slope, guard: u8) -> [u32; 3] {
+    [slope.pitch as u32, slope.width, guard as u32]
+}
+
+// The segment of a slope in code 1.
+fn slope_index(number: u8) -> usize
+    ensures { λ r. ⌜ r ≤ 1 ⌝ }
+{
+    if number == 2 { 1 } else { 0 }
+}
+
+// S: the load of code 1 on the slope's segment.
+fn slope_load(site: Site, roof: Roof, number: u8) -> u32 {
+    let segment = segment_at(roof, 1, site.sk, slope_index(number));
+    load_on(ground_of(site, 1), segment, segment.start)
+}
+
+// The smaller of 3S and S³/3,000,000, rounded up.
+fn overhang_of(s: u32) -> u32 {
+    let cube = least(times(times(whole(s), s), s), whole(3_000_000));
+    let limit = multiple(3, s);
+    if cube < limit { cube } else { limit }
+}
+
+// The overhang at a slope's eave, above 800 m.
+pub fn overhang(site: Site, roof: Roof, number: u8) -> u32 {
+    let shape = roof.shape;
+    if has_slope(shape, number) & (800 < site.altitude) {
+        overhang_of(slope_load(site, roof, number))
+    } else {
+        NO_FORCE
+    }
+}
+
+// The force at a slope's guard: S × width/1,000 × sine, with the sine in millionths, rounded up.
+pub fn guard_force(site: Site, roof: Roof, number: u8) -> u32 {
+    let shape = roof.shape;
+    let slope = pitch_width_guard(shape, number);
+    if !has_slope(shape, number) | (slope[2] != 1) {
+        return NO_FORCE;
+    }
+    let s = times(whole(slope_load(site, roof, number)), slope[1]);
+    least(times(s, sine(slope[0])), whole(1_000_000_000))
+}

@@ -1,0 +1,119 @@
+// What a roof has: its codes, its end, and its segments from left to right, all six kinds.
+ghost use Prim.Native.Nat.{_≤_, _<_};
+use super::arch::arch_count;
+use super::arch::on_cylinder;
+use super::drift::around_projection;
+use super::drift::at_wall;
+use super::drift::beyond_wall;
+use super::drift::projection_count;
+use super::drift::wall_count;
+use super::figure::quarters;
+use super::figure::sum;
+use super::segment::Segment;
+use super::slopes::on_left;
+use super::slopes::on_monopitch;
+use super::slopes::on_right;
+use super::slopes::on_spans;
+use super::slopes::slope_start;
+use figures::Roof;
+use figures::Shape;
+
+// The code of the same shape without Cesl.
+fn persistent(code: u8) -> u8 {
+    if 10 < code { code - 10 } else { code }
+}
+
+// Whether the roof has the code: 11, 12 and 13 in situation 1 alone, and never at a projection.
+pub fn exists(shape: Shape, situation: u8, code: u8) -> bool {
+    let accidental = 10 < code;
+    let base = persistent(code);
+    let allowed = !accidental | (situation == 1);
+    match shape {
+        Shape::Monopitch { .. } => allowed & (base == 1),
+        Shape::Pitched { .. } => allowed & (1 <= base) & (base <= 3),
+        Shape::MultiSpan { .. } => allowed & (1 <= base) & (base <= 2),
+        Shape::Cylindrical { .. } => allowed & (1 <= base) & (base <= 2),
+        Shape::Abutting { .. } => allowed & (1 <= base) & (base <= 2),
+        Shape::Projection { .. } => code == 2,
+    }
+}
+
+// The slopes of a multi-span roof.
+fn slope_count(count: u8) -> usize
+    ensures { λ r. ⌜ r ≤ 32 ⌝ }
+{
+    if count <= 16 {
+        2 * (count as usize)
+    } else {
+        32
+    }
+}
+
+// How many segments the arrangement has.
+pub fn segment_count(shape: Shape, code: u8) -> usize
+    ensures { λ r. ⌜ r ≤ 32 ⌝ }
+{
+    let base = persistent(code);
+    match shape {
+        Shape::Monopitch { .. } => 1,
+        Shape::Pitched { .. } => 2,
+        Shape::MultiSpan { count } => slope_count(count),
+        Shape::Cylindrical { rise, span } => arch_count(rise, span, base),
+        Shape::Abutting { b2, h, .. } => wall_count(b2, h, base),
+        Shape::Projection { h, left, right } => projection_count(h, left, right),
+    }
+}
+
+// The segment at an index, at a ground load of sk.
+pub fn segment_at(roof: Roof, code: u8, sk: u32, i: usize) -> Segment
+    requires { ⌜ i < 32 ⌝ }
+{
+    let base = persistent(code);
+    let shape = roof.shape;
+    let spans = roof.spans;
+    match shape {
+        Shape::Monopitch { slope, guard } => on_monopitch(slope, guard),
+        Shape::Pitched {
+            left,
+            right,
+            left_guard,
+            right_guard,
+        } => {
+            if i == 0 {
+                on_left(left, left_guard, base)
+            } else {
+                on_right(left, right, right_guard, base)
+            }
+        }
+        Shape::MultiSpan { count } => on_spans(spans, slope_count(count), base, i),
+        Shape::Cylindrical { rise, span } => on_cylinder(rise, span, base, i),
+        Shape::Abutting {
+            b1,
+            b2,
+            h,
+            slope,
+            guard,
+        } => {
+            if (base == 2) & (i == 0) {
+                at_wall(b1, b2, h, slope, guard, sk)
+            } else {
+                beyond_wall(b2, h, base)
+            }
+        }
+        Shape::Projection { h, left, right } => around_projection(h, left, right, sk, i),
+    }
+}
+
+// The roof's end in quarter millimetres.
+pub fn roof_end(roof: Roof) -> u32 {
+    let shape = roof.shape;
+    let spans = roof.spans;
+    match shape {
+        Shape::Monopitch { slope, .. } => quarters(slope.width),
+        Shape::Pitched { left, right, .. } => quarters(sum(left.width, right.width)),
+        Shape::MultiSpan { count } => slope_start(spans, slope_count(count)),
+        Shape::Cylindrical { span, .. } => quarters(span),
+        Shape::Abutting { b2, .. } => quarters(b2),
+        Shape::Projection { left, right, .. } => quarters(sum(left, right)),
+    }
+}

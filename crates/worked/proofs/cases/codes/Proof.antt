@@ -1,0 +1,46 @@
+-- The codes before i are tried.
+use Prim.Native.Nat.{_≤_, _-_}
+use borrow.Author.Needs.{needs}
+use Rattle.worked.proofs.cases.codes.Statement.{statement}
+use Rattle.worked.proofs.cases.codes.Tie as tie
+
+abbrev Inv-loop : tie.InvT-loop
+Inv-loop tally₀ site roof i₀ tally i = i ≤ 12
+
+abbrev μ-loop : tie.MeasureT-loop
+μ-loop tally₀ site roof i₀ tally i = 12 - i
+
+loop-holds : tie.Need-loop-holds Inv-loop μ-loop
+loop-holds c = search needs
+
+array-read-one-code : tie.Need-array-read-one-code Inv-loop μ-loop
+array-read-one-code c = search needs
+
+one-code-requires : tie.Need-one-code-requires Inv-loop μ-loop
+one-code-requires c κs = search needs
+
+add-i : tie.Need-add-i Inv-loop μ-loop
+add-i c = search needs
+
+loop-less : tie.Need-loop-less Inv-loop μ-loop
+loop-less c = search needs
+
+loop-again : tie.Need-loop-again Inv-loop μ-loop
+loop-again c = search needs
+
+returns : tie.Need-returns Inv-loop μ-loop
+returns c = search needs
+
+pub codes-spec : {M : Type 1} → statement M
+codes-spec =
+    tie.close
+    (tie.spec
+    Inv-loop
+    μ-loop
+    loop-holds
+    array-read-one-code
+    one-code-requires
+    add-i
+    loop-less
+    loop-again
+    returns)
