@@ -1,8 +1,8 @@
 // Kind 5: a cylindrical roof.
 ghost use Prim.Native.Nat.{_≤_, _<_};
-use super::coefficient::eight_tenths;
+use super::coefficient::EIGHT_TENTHS;
+use super::coefficient::NOTHING;
 use super::coefficient::halved;
-use super::coefficient::nothing;
 use super::coefficient::on_arch;
 use super::figure::difference;
 use super::figure::multiple;
@@ -68,7 +68,7 @@ pub fn arch_count(rise: u32, span: u32, code: u8) -> usize
 // Code 1: 0.8 on ls.
 fn even_arch(rise: u32, span: u32) -> Segment {
     let edge = bare_edge(rise, span);
-    even(edge, difference(quarters(span), edge), eight_tenths())
+    even(edge, difference(quarters(span), edge), EIGHT_TENTHS)
 }
 
 // Code 2: the legs of two triangles, each leg a quarter of ls, with the peaks 0.5μ3 and μ3.
@@ -78,13 +78,13 @@ fn leg(rise: u32, span: u32, k: u32) -> Segment {
     let end = sum(start, quarter);
     let peak = on_arch(rise, span);
     if k == 0 {
-        uncut(start, end, nothing(), halved(peak))
+        uncut(start, end, NOTHING, halved(peak))
     } else if k == 1 {
-        uncut(start, end, halved(peak), nothing())
+        uncut(start, end, halved(peak), NOTHING)
     } else if k == 2 {
-        uncut(start, end, nothing(), peak)
+        uncut(start, end, NOTHING, peak)
     } else {
-        uncut(start, end, peak, nothing())
+        uncut(start, end, peak, NOTHING)
     }
 }
 
@@ -105,11 +105,11 @@ pub fn on_cylinder(rise: u32, span: u32, code: u8, i: usize) -> Segment
         return loaded_part(rise, span, code, i as u32);
     }
     if i == 0 {
-        return even(0, edge, nothing());
+        return even(0, edge, NOTHING);
     }
     if i <= loaded_count(code) {
         return loaded_part(rise, span, code, (i - 1) as u32);
     }
     let end = quarters(span);
-    even(difference(end, edge), end, nothing())
+    even(difference(end, edge), end, NOTHING)
 }

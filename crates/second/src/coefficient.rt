@@ -11,14 +11,10 @@ pub struct Ratio {
     pub den: u32,
 }
 
-pub fn nothing() -> Ratio {
-    Ratio { num: 0, den: 1 }
-}
+pub const NOTHING: Ratio = Ratio { num: 0, den: 1 };
 
 // 0.8.
-pub fn eight_tenths() -> Ratio {
-    Ratio { num: 8, den: 10 }
-}
+pub const EIGHT_TENTHS: Ratio = Ratio { num: 8, den: 10 };
 
 pub fn halved(a: Ratio) -> Ratio {
     Ratio {
@@ -43,10 +39,10 @@ fn larger(a: Ratio, b: Ratio) -> Ratio {
 // μ1 without a guard: 0.8 up to 30°; 0.8(60 − α)/30 between; 0 from 60°.
 fn bare_slope(pitch: u16) -> Ratio {
     if pitch <= 300 {
-        return eight_tenths();
+        return EIGHT_TENTHS;
     }
     if 600 <= pitch {
-        return nothing();
+        return NOTHING;
     }
     Ratio {
         num: 8 * (600 - pitch as u32),
@@ -57,7 +53,7 @@ fn bare_slope(pitch: u16) -> Ratio {
 // μ1: with a guard never below 0.8.
 pub fn on_slope(pitch: u16, guard: u8) -> Ratio {
     if guard == 1 {
-        larger(bare_slope(pitch), eight_tenths())
+        larger(bare_slope(pitch), EIGHT_TENTHS)
     } else {
         bare_slope(pitch)
     }
@@ -97,13 +93,13 @@ pub fn by_wind(b1: u32, b2: u32, h: u32, sk: u32) -> Ratio {
         den: sk,
     };
     let limited = smaller(smaller(spread, depth), Ratio { num: 4, den: 1 });
-    larger(limited, eight_tenths())
+    larger(limited, EIGHT_TENTHS)
 }
 
 // μs: 0 up to 15.0°; above that μ1 × slope width/ls.
 pub fn by_sliding(pitch: u16, guard: u8, width: u32, length: u32) -> Ratio {
     if pitch <= 150 {
-        return nothing();
+        return NOTHING;
     }
     let slope = on_slope(pitch, guard);
     Ratio {
@@ -118,5 +114,5 @@ pub fn at_projection(h: u32, sk: u32) -> Ratio {
         num: multiple(h, 2),
         den: sk,
     };
-    larger(smaller(depth, Ratio { num: 2, den: 1 }), eight_tenths())
+    larger(smaller(depth, Ratio { num: 2, den: 1 }), EIGHT_TENTHS)
 }

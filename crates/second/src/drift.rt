@@ -1,11 +1,11 @@
 // Kinds 6 and 7: drifts at a wall and at a projection.
 ghost use Prim.Native.Nat.{_≤_};
+use super::coefficient::EIGHT_TENTHS;
+use super::coefficient::NOTHING;
 use super::coefficient::Ratio;
 use super::coefficient::at_projection;
 use super::coefficient::by_sliding;
 use super::coefficient::by_wind;
-use super::coefficient::eight_tenths;
-use super::coefficient::nothing;
 use super::figure::difference;
 use super::figure::multiple;
 use super::figure::quarters;
@@ -39,7 +39,7 @@ fn falling(start: u32, length: u32, room: u32, from: Ratio, slide: Ratio) -> Seg
         length: quarters(length),
         from: from,
         slide: slide,
-        to: eight_tenths(),
+        to: EIGHT_TENTHS,
     }
 }
 
@@ -50,8 +50,8 @@ fn rising(length: u32, room: u32, to: Ratio) -> Segment {
         end: quarters(room),
         skipped: quarters(difference(length, room)),
         length: quarters(length),
-        from: eight_tenths(),
-        slide: nothing(),
+        from: EIGHT_TENTHS,
+        slide: NOTHING,
         to: to,
     }
 }
@@ -82,7 +82,7 @@ pub fn beyond_wall(b2: u32, h: u32, code: u8) -> Segment {
     } else {
         quarters(drift_length(h))
     };
-    even(start, quarters(b2), eight_tenths())
+    even(start, quarters(b2), EIGHT_TENTHS)
 }
 
 // Kind 7: two drifts, and an even stretch beyond each if the roof reaches further.
@@ -105,17 +105,17 @@ pub fn around_projection(h: u32, left: u32, right: u32, sk: u32, i: usize) -> Se
     let peak = at_projection(h, sk);
     let first = if length < left { 1 } else { 0 };
     if i < first {
-        return even(0, quarters(difference(left, length)), eight_tenths());
+        return even(0, quarters(difference(left, length)), EIGHT_TENTHS);
     }
     if i == first {
         return rising(length, left, peak);
     }
     if i == first + 1 {
-        return falling(quarters(left), length, right, peak, nothing());
+        return falling(quarters(left), length, right, peak, NOTHING);
     }
     even(
         quarters(sum(left, length)),
         quarters(sum(left, right)),
-        eight_tenths(),
+        EIGHT_TENTHS,
     )
 }

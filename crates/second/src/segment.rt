@@ -1,6 +1,6 @@
 // A segment with the coefficients of its uncut line.
+use super::coefficient::NOTHING;
 use super::coefficient::Ratio;
-use super::coefficient::nothing;
 use super::figure::difference;
 use super::figure::sum;
 
@@ -29,7 +29,7 @@ pub fn uncut(start: u32, end: u32, from: Ratio, to: Ratio) -> Segment {
         skipped: 0,
         length: difference(end, start),
         from: from,
-        slide: nothing(),
+        slide: NOTHING,
         to: to,
     }
 }

@@ -72,7 +72,7 @@ fn written(tally: Tally, site: Site, roof: Roof, code: u8) -> Tally {
     segments(counted, site, roof, code, n, &out)
 }
 
-// The number that refuses a slice of so many numbers: 255 where the slice is altered for all that.
+// The number that refuses a slice of so many numbers, 0 if none does, 255 if a refused slice is altered.
 pub fn refusal_in(site: Site, roof: Roof, code: u8, room: usize) -> u8
     requires { ⌜ room ≤ 128 ⌝ }
 {

@@ -2,9 +2,9 @@
 ghost use Prim.Native.Nat.{_<_};
 use super::edges::ARCHES;
 use super::edges::HEIGHTS;
-use super::edges::LEFT_OF_RIDGE;
+use super::edges::ONE_SIDE;
+use super::edges::OTHER_SIDE;
 use super::edges::PITCHES;
-use super::edges::RIGHT_OF_RIDGE;
 use super::edges::SITE_COUNT;
 use super::edges::WIDTHS;
 use super::roofs::slope;
@@ -46,12 +46,22 @@ fn pitched_case(i: usize) -> Roof
     super::roofs::pitched(left, right, bit(i / 10), bit(i / 20))
 }
 
+// A span of a case: odd cases have the steeper table to the left of the ridge.
 fn span_case(i: usize, k: usize) -> Span
     requires { ⌜ (i < 1000) × (k < 16) ⌝ }
 {
-    Span {
-        left: slope(LEFT_OF_RIDGE[(i + 3 * k) % 8], width(i + k)),
-        right: slope(RIGHT_OF_RIDGE[(2 * i + k) % 7], width(3 * i + 5 * k)),
+    let one = slope(ONE_SIDE[(i + 3 * k) % 8], width(i + k));
+    let other = slope(OTHER_SIDE[(2 * i + k) % 7], width(3 * i + 5 * k));
+    if i % 2 == 0 {
+        Span {
+            left: one,
+            right: other,
+        }
+    } else {
+        Span {
+            left: other,
+            right: one,
+        }
     }
 }
 

@@ -127,8 +127,9 @@ fn in_valleys(mut tally: Tally) -> Tally {
         tally = number(tally, at(1_000), roof, 2, 10, row[2]);
         i += 1;
     }
-    let answered = refusal(tally, valley(600, 599, 5_000, 2), 2, 0);
-    refusal(answered, valley(600, 600, 5_000, 2), 2, 9)
+    tally = refusal(tally, valley(600, 599, 5_000, 2), 2, 0);
+    tally = refusal(tally, valley(599, 600, 5_000, 2), 2, 0);
+    refusal(tally, valley(600, 600, 5_000, 2), 2, 9)
 }
 
 // Kind 5: the peaks.

@@ -5,10 +5,10 @@ use figures::Site;
 // Tenths of a degree: μs begins above 150, μ1 falls from 300 to 600.
 pub const PITCHES: [u32; 10] = [0, 150, 151, 300, 301, 437, 599, 600, 601, 800];
 
-// Slopes beside a valley: at most one of the two at 600.
-pub const RIGHT_OF_RIDGE: [u32; 7] = [0, 101, 300, 301, 450, 599, 600];
+// The two sides of a valley: 600 on one of them alone.
+pub const OTHER_SIDE: [u32; 7] = [0, 101, 300, 301, 450, 599, 600];
 
-pub const LEFT_OF_RIDGE: [u32; 8] = [0, 99, 200, 299, 300, 317, 555, 599];
+pub const ONE_SIDE: [u32; 8] = [0, 99, 200, 299, 300, 317, 555, 599];
 
 // Widths, with the drift lengths of some heights and one beside them.
 pub const WIDTHS: [u32; 13] = [

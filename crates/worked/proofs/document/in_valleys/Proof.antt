@@ -67,6 +67,12 @@ valley-requires-3 c κs = search needs
 refusal-requires-2 : tie.Need-refusal-requires-2 Inv-loop μ-loop
 refusal-requires-2 c κs = search needs
 
+valley-requires-4 : tie.Need-valley-requires-4 Inv-loop μ-loop
+valley-requires-4 c κs = search needs
+
+refusal-requires-3 : tie.Need-refusal-requires-3 Inv-loop μ-loop
+refusal-requires-3 c κs = search needs
+
 returns : tie.Need-returns Inv-loop μ-loop
 returns c = search needs
 
@@ -95,4 +101,6 @@ in-valleys-spec =
     refusal-requires
     valley-requires-3
     refusal-requires-2
+    valley-requires-4
+    refusal-requires-3
     returns)
