@@ -1,11 +1,12 @@
 -- How far a break's load and a ramp's reading lie above the exact ones, how they rise, and where they end.
-use mathlib.Core.Path.{_≡_, ap, subst}
+use mathlib.Core.Path.{_≡_, refl, ap, subst}
 use Prim.Native.Nat.{ℕ, _+_, _-_, _*_, _≤_, _<_}
 use native.Mathlib.Nat.{le-of-lt, mul-le-mul-right, mul-lt-mul-of-pos-right, mul-pos, sub-add-cancel}
 use native.Mathlib.Omega.{arith}
 use Rattle.rounding.specs.Fraction.{Fraction, AtMost, Under, Below, Close, over, sum}
 use Rattle.rounding.specs.Load.{Load, Positive, exact, breakLoad}
 use Rattle.rounding.specs.Ramp.{line, reading}
+use Rattle.rounding.specs.Up.{ceilDiv, roundedUp}
 use Rattle.rounding.proofs.Rounding.{reaches, near, least, whole, mono, up-close, up-mono}
 
 -- At one grain to the whole, the count is the number itself.
@@ -25,6 +26,11 @@ sum-close {e = e} {f = f} p q he hf =
 pub exact-positive : (l : Load) → Positive l → 0 < exact l .den
 unfolding exact sum
 exact-positive l h = mul-pos (h .first) (h .second)
+
+-- Each part is rounded by itself: two halves come to two.
+pub two-halves : breakLoad 1 (record { first = over 1 2; second = over 1 2 }) ≡ 2
+unfolding breakLoad exact sum roundedUp ceilDiv
+two-halves = refl
 
 pub break-close : (g : ℕ) (l : Load) → Positive l → Close g 2 (breakLoad g l) (exact l)
 unfolding breakLoad exact

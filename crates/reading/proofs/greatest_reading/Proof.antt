@@ -22,7 +22,7 @@ unfolding startOf greatest
 loop-holds c = (omega arith, refl, omega arith, refl, omega arith)
 
 ramp-at-requires : tie.Need-ramp-at-requires Inv-loop μ-loop
-ramp-at-requires c κs = let p = c .before .before .pre in (p .0, p .1, p .2, rw (← p .3) (c .loop-test .taken))
+ramp-at-requires c κs = let p = c .before .before .pre in (p .0, p .1, p .2, omega (arith, p .3, c .loop-test .taken))
 
 read-requires : tie.Need-read-requires Inv-loop μ-loop
 read-requires c κs = (c .ramp-at .ensures .1, omega (arith, c .before .before .loop .inv .4, c .before .before .before .pre .4))
