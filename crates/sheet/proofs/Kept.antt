@@ -1,13 +1,13 @@
 -- What accepted pairs and an accepted sheet keep: the items lie within the sheet, and none is empty.
-use Prim.Native.Nat.{ℕ, zero, suc, _+_, _≤_, _<_}
-use mathlib.Core.Path.{_≡_, refl, subst, sym, _∙_}
+use Prim.Native.Nat.{ℕ, zero, suc, _+_, _-_, _≤_, _<_}
+use mathlib.Core.Path.{_≡_, refl, subst, sym, ap, _∙_}
 use mathlib.Core.Bool.{Bool, true, false, cond, _&&_}
 use mathlib.Core.List.{List, []}
 use mathlib.Core.Logic.{⊎-elim}
 use borrow.Author.Tests.{leb-true, ltb-true, eqb-true, lt-ltb, le-ltb}
 use lib.Dec.{leb, ltb, eqb}
-use lib.ListN.{length}
-use native.Mathlib.Nat.{eq-or-lt-of-le, eq-zero-or-pos}
+use lib.ListN.{length, take, drop}
+use native.Mathlib.Nat.{eq-or-lt-of-le, eq-zero-or-pos, add-sub-cancel-left}
 use native.Mathlib.Omega.{arith}
 use Rattle.figures.proofs.Laws.{both}
 use Rattle.sheet.specs.Items.{ruleNumber, content}
@@ -133,3 +133,38 @@ module _ (ceiling : Ceiling) (s : List ℕ) where
     pub place-found : (n : ℕ) → sheetVerdict ceiling s ≡ accepted n → x < n → accepted (record { start = offset s x; bytes = size s x }) ≡ place ceiling s x
     unfolding place placeBy
     place-found n e h = rw (e, lt-ltb x n h)
+
+-- the part between two places that a pair gives
+pub part-is : (s : List ℕ) (i a b : ℕ) → a ≡ offset s i → b ≡ size s i → take (a + b - a) (drop a s) ≡ part s i
+part-is s i a b e f = ap (λ (k : ℕ). take k (drop a s)) (add-sub-cancel-left a b) ∙ rw (e, f)
+
+-- the item that a refusal names is one of those walked over
+named-by :
+    (b : Bool) (v : Answer ℕ) (y i k x j : ℕ) → (v ≡ refused x j → j < suc i + k) → cond b v (refused y i) ≡ refused x j → j < i + suc k
+named-by true v y i k x j f e = omega (arith, f e)
+named-by false v y i k x j f e = let z : i ≡ j = cc in omega arith
+
+named-in : (number : ℕ → ℕ) (m i k x j : ℕ) → inTurn number m i k ≡ refused x j → j < i + k
+unfolding inTurn
+named-in number m i zero x j e = let z : _≡_ {A = ℕ} 0 1 = cc in absurd (omega arith)
+named-in number m i (suc k) x j e = named-by (eqb (number i) 0) (inTurn number m (suc i) k) (number i) i k x j (named-in number m (suc i) k x j) e
+
+module _ (ceiling : Ceiling) (s : List ℕ) (x j : ℕ) where
+  pair-named-by : (b : Bool) → fits ceiling (length s) (count s) ≡ b → cond b (inTurn (pairNumber s) (count s) 0 (count s)) (refused 1 0) ≡ refused x j → j ≤ ceiling .items
+  pair-named-by true f e = omega (arith, named-in (pairNumber s) (count s) 0 (count s) x j e, fitting ceiling (length s) (count s) f .items)
+  pair-named-by false f e = let z : 0 ≡ j = cc in omega arith
+
+  pair-named : pairsVerdict ceiling s ≡ refused x j → j ≤ ceiling .items
+  unfolding pairsVerdict
+  pair-named e = pair-named-by (fits ceiling (length s) (count s)) refl e
+
+  sheet-named-by : (v : Answer ℕ) → pairsVerdict ceiling s ≡ v → andThen v (inTurn (itemNumber s) (count s) 0 (count s)) ≡ refused x j → j ≤ ceiling .items
+  sheet-named-by (refused k i) q e = pair-named (q ∙ e)
+  sheet-named-by (accepted n) q e =
+      let p = pairs-kept ceiling s n q in
+      omega (arith, named-in (itemNumber s) (count s) 0 (count s) x j e, p .counted, p .fit .items)
+
+  -- the item that a refused sheet names
+  pub sheet-named : sheetVerdict ceiling s ≡ refused x j → j ≤ ceiling .items
+  unfolding sheetVerdict
+  sheet-named e = sheet-named-by (pairsVerdict ceiling s) refl e

@@ -55,6 +55,7 @@ module _ (s : List ℕ) (i : ℕ) where
 -- what the limits tell
 pub record Fitting (ceiling : Ceiling) (b n : ℕ) : Type 0 where
   pub bytes : b ≤ ceiling .bytes
+  pub some : 1 ≤ n
   pub items : n ≤ ceiling .items
   pub pairs : 2 + 4 * n ≤ b
 
@@ -64,6 +65,7 @@ fitting ceiling b n h =
     let q = both (within 2 (ceiling .bytes) b) (within 1 (ceiling .items) n) (p .0) in
     record {
       bytes = within-in 2 (ceiling .bytes) b (q .0) .1;
+      some = within-in 1 (ceiling .items) n (q .1) .0;
       items = within-in 1 (ceiling .items) n (q .1) .1;
       pairs = leb-true (2 + 4 * n) b (p .1);
     }

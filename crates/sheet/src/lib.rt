@@ -12,4 +12,5 @@ pub use pairs::Verdict;
 pub use reader::Located;
 pub use reader::item;
 pub use reader::locate;
+pub use reader::part_at;
 pub use reader::verdict;

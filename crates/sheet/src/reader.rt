@@ -1,7 +1,9 @@
 // The reader: every rule on a sheet in document 01's order, and its items.
 ghost use mathlib.Core.Path.{_≡_};
+ghost use Prim.Native.Nat.{_+_, _*_, _≤_};
+ghost use lib.ListN.{length};
 ghost use Rattle.sheet.specs.Items.{content, misplaced, ruleNumber};
-ghost use Rattle.sheet.specs.Sheet.{terminals, itemNumber, inTurn, pairsVerdict, accepted, sheetVerdict, place, partAt, verdictMeans, locatedMeans};
+ghost use Rattle.sheet.specs.Sheet.{terminals, offset, size, part, itemNumber, inTurn, pairsVerdict, accepted, sheetVerdict, place, partAt, verdictMeans, locatedMeans};
 use crate::items::Item;
 use crate::items::decode;
 use crate::numbers::index_at;
@@ -141,6 +143,16 @@ pub fn locate(s: &[u8], index: usize) -> Located
     ensures { λ r. ⌜ locatedMeans r ≡ place terminals (now (s .entry)) index ⌝ }
 {
     locate_under(s, terminal_ceiling(), index)
+}
+
+// The item that a pair lies at, where that is within the sheet. For the crates above, which have the verdict.
+pub fn part_at<'a>(s: &'a [u8], index: usize) -> &'a [u8]
+    requires { ⌜ (2 + 4 * index + 4 ≤ length (now s)) × (offset (now s) index + size (now s) index ≤ length (now s)) ⌝ }
+    ensures { λ r. ⌜ now r ≡ part (now (s .entry)) index ⌝ }
+{
+    let start = index_at(s, 2 + 4 * index);
+    let bytes = index_at(s, 2 + 4 * index + 2);
+    &s[start..start + bytes]
 }
 
 // The item at an index, as that part of the sheet; the empty part where `locate` refuses.

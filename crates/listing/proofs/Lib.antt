@@ -1,0 +1,4 @@
+pub mod Bounds
+pub mod Codes
+pub mod Lines
+pub mod Sheets

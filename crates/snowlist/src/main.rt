@@ -1,0 +1,44 @@
+// snowlist: reads a sheet from standard input and writes its listing to standard output.
+ghost use mathlib.Core.Path.{_≡_};
+ghost use lib.ListN.{length};
+
+// A sheet's most bytes and one more, which tells a sheet that is too long.
+const SHEET_ROOM: usize = 16_385;
+
+// Room for the text.
+fn text_room() -> [u8; 275557]
+    ensures { λ r. ⌜ 275557 ≡ length r ⌝ }
+{
+    [0; 275557]
+}
+
+// Whether the input has ended, where reading stopped before the room was full. It says so where it has not.
+fn input_ended() -> bool {
+    let mut next = [0u8; 1];
+    let more = libc::read(libc::STDIN_FILENO, &mut next);
+    if more < 0 {
+        os::fail(b"read");
+        return false;
+    }
+    if more > 0 {
+        io::write_all(libc::STDERR_FILENO, b"read: the input went on after its end\n");
+        return false;
+    }
+    true
+}
+
+// Nothing is listed from a sheet that was not read whole.
+fn main() {
+    let mut sheet = [0u8; 16385];
+    let n = io::read_full(libc::STDIN_FILENO, &mut sheet);
+    if n < SHEET_ROOM {
+        if !input_ended() {
+            return;
+        }
+    }
+    let mut text = text_room();
+    let written = listing::list(&sheet[..n], &mut text);
+    if !io::write_all(libc::STDOUT_FILENO, &text[..written]) {
+        os::fail(b"write");
+    }
+}

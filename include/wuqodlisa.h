@@ -1,0 +1,50 @@
+/* Snow load arrangements of EN 1991-1-3:2003 for the firmware of the load terminals.
+ *
+ * Every call takes any bytes as a sheet and any numbers beside it, refuses what it can't answer, and ends.
+ * What a caller owes: no pointer is null, each has the length given with it (in elements) and is aligned,
+ * and memory lent for writing overlaps nothing else that the call gets.
+ */
+#ifndef WUQODLISA_H
+#define WUQODLISA_H
+
+#include <stddef.h>
+#include <stdint.h>
+
+#ifdef __cplusplus
+extern "C" {
+#endif
+
+/* A refusal is 0x80000000 + 256 * number + item; an item above 255 shows as 255. Any other answer is below it. */
+#define SNOW_REFUSED 0x80000000u
+
+/* The answer where there is no such force. */
+#define SNOW_NONE 0xFFFFFFFFu
+
+/* A number of bytes that holds the listing of any sheet. */
+#define SNOW_LIST_ROOM 275557
+
+/* The count of a sheet's items, or a refusal (1 to 10). */
+uint32_t snow_verdict(const uint8_t *sheet, size_t length);
+
+/* Writes the segments of an item's arrangement at the front of out, four numbers each: start, end, load, load.
+ * The count of segments, or a refusal (1 to 10, 12 for the index, 13, 11), which alters nothing. */
+uint32_t snow_make(const uint8_t *sheet, size_t length, size_t item, uint8_t code, uint32_t *out, size_t room);
+
+/* The load at a station, in N/m2, or a refusal (1 to 10, 12 for the index, 13, 12 for the station). */
+uint32_t snow_load(const uint8_t *sheet, size_t length, size_t item, uint8_t code, uint32_t station);
+
+/* The overhang at the eave of a slope, in N/m, SNOW_NONE, or a refusal (1 to 10, 12 for the index). */
+uint32_t snow_overhang(const uint8_t *sheet, size_t length, size_t item, uint8_t slope);
+
+/* The force at the guard of a slope, in N/m, SNOW_NONE, or a refusal (1 to 10, 12 for the index). */
+uint32_t snow_guard_force(const uint8_t *sheet, size_t length, size_t item, uint8_t slope);
+
+/* Writes the listing of a sheet at the front of out, the line REFUSED for a refused one, and answers its bytes.
+ * Where room is less than SNOW_LIST_ROOM nothing is written and 0 is answered. */
+size_t snow_list(const uint8_t *sheet, size_t length, uint8_t *out, size_t room);
+
+#ifdef __cplusplus
+}
+#endif
+
+#endif
