@@ -17,6 +17,11 @@ abbrev pub madeMeans : Made → Answer
 madeMeans (Segments n) = value n
 madeMeans (Refused number) = refused number
 
+-- the count of segments, 0 in a refusal
+abbrev pub madeCount : Made → ℕ
+madeCount (Segments n) = n
+madeCount (Refused number) = 0
+
 -- the slice after an answer: the segments at its front and its old contents behind them; after a refusal its old contents
 abbrev pub contents : National → Site → Roof → ℕ → Made → List ℕ → List ℕ
 contents national site roof code (Segments n) old = segments (stretch national site roof code) n ++ drop (4 * n) old

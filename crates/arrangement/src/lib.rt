@@ -3,7 +3,7 @@ ghost use mathlib.Core.List.{_++_};
 ghost use mathlib.Core.Path.{_≡_};
 ghost use lib.ListN.{length, take, drop};
 ghost use Prim.Native.Nat.{suc, _+_, _*_, _≤_, _<_};
-ghost use Rattle.arrangement.specs.Arrangement.{madeMeans, contents, numbers};
+ghost use Rattle.arrangement.specs.Arrangement.{madeMeans, madeCount, contents, numbers};
 ghost use Rattle.figures.specs.Bounds.{ShapeIn};
 ghost use Rattle.loads.specs.Sizes.{Ground};
 ghost use Rattle.standard.specs.Answers.{makeAnswer};
@@ -86,6 +86,7 @@ fn write(national: National, roof: Roof, code: u8, factor: u64, sk: u64, n: usiz
 pub fn make(site: Site, roof: Roof, code: u8, out: &mut [u32]) -> Made
     ensures answer { λ r. ⌜ madeMeans r ≡ makeAnswer recommendedFigures site roof code (length (now (out .entry))) ⌝ }
     ensures written { λ r. ⌜ now (out .exit) ≡ contents recommendedFigures site roof code r (now (out .entry)) ⌝ }
+    ensures few { λ r. ⌜ madeCount r ≤ 32 ⌝ }
 {
     let number = segments::refusal(site, roof, code);
     if number != 0 {

@@ -1,5 +1,5 @@
 -- What accepted pairs and an accepted sheet keep: the items lie within the sheet, and none is empty.
-use Prim.Native.Nat.{ℕ, zero, suc, _+_, _-_, _≤_, _<_}
+use Prim.Native.Nat.{ℕ, zero, suc, _+_, _-_, _*_, _≤_, _<_}
 use mathlib.Core.Path.{_≡_, refl, subst, sym, ap, _∙_}
 use mathlib.Core.Bool.{Bool, true, false, cond, _&&_}
 use mathlib.Core.List.{List, []}
@@ -168,3 +168,22 @@ module _ (ceiling : Ceiling) (s : List ℕ) (x j : ℕ) where
   pub sheet-named : sheetVerdict ceiling s ≡ refused x j → j ≤ ceiling .items
   unfolding sheetVerdict
   sheet-named e = sheet-named-by (pairsVerdict ceiling s) refl e
+
+-- the pair of an item that is located, and the first pair, lie within the sheet
+pub record PairsAt (s : List ℕ) (x : ℕ) : Type 0 where
+  pub pair : 2 + 4 * x + 4 ≤ length s
+  pub first : offset s 0 + size s 0 ≤ length s
+  pub within : offset s x + size s x ≤ length s
+
+pairs-at-by : (ceiling : Ceiling) (s : List ℕ) (x : ℕ) (p : Place) (v : Answer ℕ) → sheetVerdict ceiling s ≡ v → placeBy v s x ≡ accepted p → PairsAt s x
+unfolding placeBy
+pairs-at-by ceiling s x p (refused k i) q e = let z : _≡_ {A = ℕ} 0 1 = cc in absurd (omega arith)
+pairs-at-by ceiling s x p (accepted n) q e =
+    let k = sheet-kept ceiling s n q .pairs in
+    let t = not-refused (ltb x n) (accepted (record { start = offset s x; bytes = size s x })) 12 x p e in
+    let h : x < n = ltb-true x n (t .0) in
+    record { pair = omega (arith, k .fit .pairs); first = k .each 0 (omega arith) .within; within = k .each x h .within }
+
+pub pairs-at : (ceiling : Ceiling) (s : List ℕ) (x : ℕ) (p : Place) → place ceiling s x ≡ accepted p → PairsAt s x
+unfolding place
+pairs-at ceiling s x p e = pairs-at-by ceiling s x p (sheetVerdict ceiling s) refl e

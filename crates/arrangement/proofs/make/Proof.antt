@@ -1,3 +1,4 @@
+use native.Mathlib.Omega.{arith}
 use Rattle.standard.specs.Answers.{makeAnswer}
 use Rattle.arrangement.proofs.Answering.{refused-room, answered}
 use Rattle.standard.specs.Stretch.{Stretch, segments}
@@ -24,7 +25,7 @@ refusal-requires c κs = search needs
 
 returns : tie.Need-returns
 unfolding makeAnswer
-returns c = (rules-refuse _ _ _ _ _ (c .before .refusal .ensures) (c .if1 .taken), refl)
+returns c = (rules-refuse _ _ _ _ _ (c .before .refusal .ensures) (c .if1 .taken), (refl, omega arith))
 
 recommended-requires : tie.Need-recommended-requires
 recommended-requires c κs = search needs
@@ -39,7 +40,7 @@ mul-if2 : tie.Need-mul-if2
 mul-if2 c = search needs
 
 returns-2 : tie.Need-returns-2
-returns-2 c = (refused-room _ _ _ _ _ (sym (c .before .before .before .before .before .refusal .ensures) ∙ c .before .before .before .before .if1 .left) _ (counted (c .before)) (c .if2 .taken), refl)
+returns-2 c = (refused-room _ _ _ _ _ (sym (c .before .before .before .before .before .refusal .ensures) ∙ c .before .before .before .before .if1 .left) _ (counted (c .before)) (c .if2 .taken), (refl, omega arith))
 
 factor-requires : tie.Need-factor-requires
 factor-requires c κs = fine (c .before .before .before .before) .site
@@ -59,9 +60,12 @@ returns-3 : tie.Need-returns-3
 returns-3 c = let old = now (c .before .before .before .before .before .before .before .before .before .before .before .before .before .args .out) in
     let n = c .before .before .before .before .before .before .before .count .result in (
       answered _ _ _ _ _ (sym (c .before .before .before .before .before .before .before .before .before .before .before .refusal .ensures) ∙ c .before .before .before .before .before .before .before .before .before .before .if1 .left) _ (counted (c .before .before .before .before .before .before .before)) (c .before .before .before .before .before .before .if2 .left),
-      c .before .before .write .ensures
-          ∙ ap (λ (S : ℕ → Stretch). segments S n ++ drop (4 * n) old)
-          (stretch-is _ (c .before .before .before .before .before .before .before .before .before .recommended .ensures) _ _ _ (c .before .before .before .before .before .before .before .before .base-code .ensures) _ _ (c .before .before .before .before .before .factor .ensures .0)),
+      (
+        c .before .before .write .ensures
+            ∙ ap (λ (S : ℕ → Stretch). segments S n ++ drop (4 * n) old)
+            (stretch-is _ (c .before .before .before .before .before .before .before .before .before .recommended .ensures) _ _ _ (c .before .before .before .before .before .before .before .before .base-code .ensures) _ _ (c .before .before .before .before .before .factor .ensures .0)),
+        c .before .before .before .before .before .before .before .count .ensures .1,
+      ),
     )
 
 pub make-spec : {M : Type 1} → statement M

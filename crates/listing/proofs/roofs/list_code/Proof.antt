@@ -26,7 +26,7 @@ written :
     (c : tie.After-known-told)
     → c .before .before .before .before .before .make .last .1 .1 .1 .0
     ≡ segments (stretch recommendedFigures (c .before .before .before .before .before .before .before .before .before .args .site) (c .before .before .before .before .before .before .before .before .before .args .roof) (c .before .before .before .before .before .before .before .before .before .args .code)) (c .before .n .given .0 .0) ++ drop (4 * c .before .n .given .0 .0) (now (c .before .before .before .before .before .before .before .before .before .args .numbers))
-written c = c .before .before .before .before .before .make .ensures .1 ∙ ap (λ m. contents recommendedFigures (c .before .before .before .before .before .before .before .before .before .args .site) (c .before .before .before .before .before .before .before .before .before .args .roof) (c .before .before .before .before .before .before .before .before .before .args .code) m (now (c .before .before .before .before .before .before .before .before .before .args .numbers))) (c .before .n .given .1)
+written c = c .before .before .before .before .before .make .ensures .1 .0 ∙ ap (λ m. contents recommendedFigures (c .before .before .before .before .before .before .before .before .before .args .site) (c .before .before .before .before .before .before .before .before .before .args .roof) (c .before .before .before .before .before .before .before .before .before .args .code) m (now (c .before .before .before .before .before .before .before .before .before .args .numbers))) (c .before .n .given .1)
 
 make-requires : tie.Need-make-requires
 make-requires c κs = search needs

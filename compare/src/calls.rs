@@ -1,0 +1,122 @@
+//! The six calls with the same answers as the C calls of the library.
+
+use crate::arrangement::Arrangement;
+use crate::forces;
+use crate::listing;
+use crate::sheet::{number, Item, Items, Refusal, Roof, Site, Slope};
+
+/// A refusal is this plus 256 × number plus the item.
+pub const REFUSED: u32 = 0x8000_0000;
+/// The answer where there is no such force.
+pub const NONE: u32 = u32::MAX;
+/// The least room for a listing.
+pub const LIST_ROOM: usize = listing::ROOM;
+
+/// The site, and the roof asked for unless the item is the site itself.
+type Asked = (Site, Option<Roof>);
+
+/// The count of a sheet's items, or a refusal.
+pub fn verdict(sheet: &[u8]) -> u32 {
+    answer(count(sheet))
+}
+
+/// Writes an arrangement's segments, four numbers each; their count, or a refusal.
+pub fn make(sheet: &[u8], item: usize, code: u8, out: &mut [u32]) -> u32 {
+    answer(try_make(sheet, item, code, out))
+}
+
+/// The load at a station, or a refusal.
+pub fn load(sheet: &[u8], item: usize, code: u8, station: u32) -> u32 {
+    answer(try_load(sheet, item, code, station))
+}
+
+/// The overhang at the eave of a slope, `NONE`, or a refusal.
+pub fn overhang(sheet: &[u8], item: usize, slope: u8) -> u32 {
+    answer(force(sheet, item, slope, forces::overhang))
+}
+
+/// The force at the guard of a slope, `NONE`, or a refusal.
+pub fn guard_force(sheet: &[u8], item: usize, slope: u8) -> u32 {
+    answer(force(sheet, item, slope, forces::guard_force))
+}
+
+/// Writes the listing at the front of `out`; its bytes. Too little room gives 0.
+pub fn list(sheet: &[u8], out: &mut [u8]) -> usize {
+    if out.len() < LIST_ROOM {
+        return 0;
+    }
+    let mut text = Vec::new();
+    listing::list(sheet, &mut text);
+    out[..text.len()].copy_from_slice(&text);
+    text.len()
+}
+
+fn answer(result: Result<u32, Refusal>) -> u32 {
+    result.unwrap_or_else(|refusal| {
+        let item = refusal.item.min(255) as u32;
+        REFUSED + 256 * u32::from(refusal.number) + item
+    })
+}
+
+fn count(sheet: &[u8]) -> Result<u32, Refusal> {
+    let mut items = Items::of(sheet)?;
+    let count = items.len() as u32;
+    items.try_for_each(|item| item.map(|_| ()))?;
+    Ok(count)
+}
+
+/// Every rule on the sheet comes before the index asked for.
+fn ask(sheet: &[u8], index: usize) -> Result<Asked, Refusal> {
+    let items = Items::of(sheet)?;
+    let count = items.len();
+    let mut site = None;
+    let mut wanted = None;
+    for (place, item) in items.enumerate() {
+        match item? {
+            Item::Site(found) => site = Some(found),
+            Item::Roof(roof) if place == index => wanted = Some(roof),
+            Item::Roof(_) => {}
+        }
+    }
+    if index >= count {
+        return Err(Refusal::new(number::PAST_END, index));
+    }
+    Ok((site.expect("the first item is a site"), wanted))
+}
+
+fn arrangement(sheet: &[u8], item: usize, code: u8) -> Result<Arrangement, Refusal> {
+    let (site, roof) = ask(sheet, item)?;
+    roof.and_then(|roof| Arrangement::of(&site, &roof, code))
+        .ok_or(Refusal::new(number::NOT_MADE, item))
+}
+
+fn try_make(sheet: &[u8], item: usize, code: u8, out: &mut [u32]) -> Result<u32, Refusal> {
+    let made = arrangement(sheet, item, code)?;
+    let stretches = made.stretches();
+    let room = out
+        .get_mut(..4 * stretches.len())
+        .ok_or(Refusal::new(number::ROOM, item))?;
+    for (place, stretch) in room.chunks_exact_mut(4).zip(stretches) {
+        place.copy_from_slice(&stretch.segment());
+    }
+    Ok(stretches.len() as u32)
+}
+
+fn try_load(sheet: &[u8], item: usize, code: u8, station: u32) -> Result<u32, Refusal> {
+    arrangement(sheet, item, code)?
+        .reading(station)
+        .ok_or(Refusal::new(number::PAST_END, item))
+}
+
+fn force(
+    sheet: &[u8],
+    item: usize,
+    slope: u8,
+    rule: fn(&Site, Slope) -> Option<u32>,
+) -> Result<u32, Refusal> {
+    let (site, roof) = ask(sheet, item)?;
+    let force = roof
+        .and_then(|roof| forces::slope(&roof, slope))
+        .and_then(|slope| rule(&site, slope));
+    Ok(force.unwrap_or(NONE))
+}

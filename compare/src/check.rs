@@ -1,0 +1,178 @@
+//! Each call asked of both sides and compared, lent memory included.
+
+use std::hint::black_box;
+
+use second::calls::{self, LIST_ROOM};
+
+use crate::ffi;
+use crate::tally::{Call, Tally};
+
+/// No number of a segment and no byte of a listing has this value.
+const MARK: u32 = 0xA5A5_A5A5;
+const MARK_BYTE: u8 = 0xA5;
+/// Marked memory before and behind what is lent.
+const FRINGE: usize = 64;
+/// The longest slice of numbers that is lent.
+const MAX_ROOM: usize = 200;
+/// The longest text buffer that is lent.
+pub const MAX_LIST_ROOM: usize = LIST_ROOM + 1_000;
+
+/// What is asked about: a sheet and the count of its items, 0 where it is refused.
+#[derive(Clone, Copy)]
+pub struct Asked<'a> {
+    pub sheet: &'a [u8],
+    pub count: usize,
+}
+
+pub struct Checker {
+    pub tally: Tally,
+    ours: Vec<u32>,
+    theirs: Vec<u32>,
+    text: Vec<u8>,
+    buffer: Vec<u8>,
+}
+
+impl Checker {
+    pub fn new() -> Self {
+        Self {
+            tally: Tally::new(),
+            ours: vec![MARK; MAX_ROOM + 2 * FRINGE],
+            theirs: vec![MARK; MAX_ROOM + 2 * FRINGE],
+            text: vec![MARK_BYTE; MAX_LIST_ROOM],
+            buffer: vec![MARK_BYTE; MAX_LIST_ROOM + 2 * FRINGE],
+        }
+    }
+
+    /// Compares the verdicts and hands on the count of items.
+    pub fn verdict<'a>(&mut self, sheet: &'a [u8]) -> Asked<'a> {
+        let ours = calls::verdict(sheet);
+        let theirs = ffi::verdict(sheet);
+        let accepted = ours < calls::REFUSED;
+        let count = if accepted { ours as usize } else { 0 };
+        self.tally.sheets += 1;
+        self.tally.accepted_sheets += u64::from(accepted);
+        let asked = Asked { sheet, count };
+        self.settle(Call::Verdict, asked, 0, [ours, theirs], || {
+            "verdict".to_string()
+        });
+        asked
+    }
+
+    /// Compares segments, the numbers behind them and the memory around the slice.
+    pub fn make(&mut self, asked: Asked, item: usize, code: u8, room: usize) -> Vec<u32> {
+        self.ours.fill(MARK);
+        self.theirs.fill(MARK);
+        let lent = FRINGE..FRINGE + room;
+        let ours = calls::make(asked.sheet, item, code, &mut self.ours[lent.clone()]);
+        let theirs = ffi::make(asked.sheet, item, code, &mut self.theirs[lent.clone()]);
+        black_box(&mut self.theirs);
+        self.tally.length(room, ours);
+        let describe = || format!("make item {item} code {code} room {room}");
+        self.settle(Call::Make, asked, item, [ours, theirs], describe);
+        if ours == theirs && self.ours != self.theirs {
+            let (left, right) = (&self.ours[lent.clone()], &self.theirs[lent]);
+            self.tally.disagree(asked.sheet, || match left == right {
+                true => format!("{}: memory around the slice", describe()),
+                false => format!("{}: second {left:?}, library {right:?}", describe()),
+            });
+        }
+        let written = if ours < calls::REFUSED { 4 * ours } else { 0 };
+        self.ours[FRINGE..FRINGE + written as usize].to_vec()
+    }
+
+    pub fn load(&mut self, asked: Asked, item: usize, code: u8, station: u32) {
+        let ours = calls::load(asked.sheet, item, code, station);
+        let theirs = ffi::load(asked.sheet, item, code, station);
+        self.settle(Call::Load, asked, item, [ours, theirs], || {
+            format!("load item {item} code {code} station {station}")
+        });
+    }
+
+    pub fn overhang(&mut self, asked: Asked, item: usize, slope: u8) {
+        let ours = calls::overhang(asked.sheet, item, slope);
+        let theirs = ffi::overhang(asked.sheet, item, slope);
+        self.settle(Call::Overhang, asked, item, [ours, theirs], || {
+            format!("overhang item {item} slope {slope}")
+        });
+    }
+
+    pub fn guard_force(&mut self, asked: Asked, item: usize, slope: u8) {
+        let ours = calls::guard_force(asked.sheet, item, slope);
+        let theirs = ffi::guard_force(asked.sheet, item, slope);
+        self.settle(Call::GuardForce, asked, item, [ours, theirs], || {
+            format!("guard_force item {item} slope {slope}")
+        });
+    }
+
+    /// Compares the listings, the bytes behind them and the memory around the buffer.
+    pub fn list(&mut self, sheet: &[u8], room: usize) {
+        self.tally.call(Call::List);
+        let ours = calls::list(sheet, &mut self.text[..room]);
+        let theirs = ffi::list(sheet, &mut self.buffer[FRINGE..FRINGE + room]);
+        black_box(&mut self.buffer);
+        let (before, after) = self.buffer.split_at(FRINGE);
+        let (text, behind) = after.split_at(ours);
+        let agree =
+            ours == theirs && text == &self.text[..ours] && is_marked(before) && is_marked(behind);
+        if !agree {
+            let describe = || describe_list(room, &self.text[..ours], theirs, after);
+            self.tally.disagree(sheet, describe);
+            self.buffer.fill(MARK_BYTE);
+        }
+        self.buffer[FRINGE..FRINGE + ours].fill(MARK_BYTE);
+    }
+
+    fn settle(
+        &mut self,
+        call: Call,
+        asked: Asked,
+        item: usize,
+        answers: [u32; 2],
+        describe: impl Fn() -> String,
+    ) {
+        let [ours, theirs] = answers;
+        self.tally.call(call);
+        self.tally.answer(ours, item < asked.count);
+        if ours != theirs {
+            self.tally.disagree(asked.sheet, || {
+                format!(
+                    "{}: second {}, library {}",
+                    describe(),
+                    show(ours),
+                    show(theirs)
+                )
+            });
+        }
+    }
+}
+
+fn is_marked(bytes: &[u8]) -> bool {
+    bytes.iter().fold(0, |all, byte| all | (byte ^ MARK_BYTE)) == 0
+}
+
+fn show(answer: u32) -> String {
+    if answer == calls::NONE {
+        "none".to_string()
+    } else if answer >= calls::REFUSED {
+        format!("refused {} item {}", answer >> 8 & 0x7F_FFFF, answer & 0xFF)
+    } else {
+        answer.to_string()
+    }
+}
+
+/// The first byte in which the buffer differs from the text and the marks behind it.
+fn describe_list(room: usize, text: &[u8], theirs: usize, buffer: &[u8]) -> String {
+    let expected = text.iter().chain(std::iter::repeat(&MARK_BYTE));
+    let place = expected.zip(buffer).position(|(a, b)| a != b);
+    let from = place.unwrap_or(0).saturating_sub(40);
+    let part = |bytes: &[u8]| {
+        let end = bytes.len().min(from + 80);
+        String::from_utf8_lossy(&bytes[from.min(end)..end]).into_owned()
+    };
+    format!(
+        "list room {room}: second {} bytes, library {theirs}, first difference at {place:?}\n  {:?}\n  {:?}",
+        text.len(),
+        part(text),
+        part(buffer)
+    )
+}

@@ -1,0 +1,68 @@
+//! The listings of the corpus, byte for byte.
+
+use std::env;
+use std::fs;
+use std::path::PathBuf;
+
+use crate::calls;
+use crate::listing;
+
+const DEFAULT: &str = concat!(
+    env!("CARGO_MANIFEST_DIR"),
+    "/../crates/trials/data/base.bin"
+);
+
+/// A sheet and the listing that it has to give.
+struct Record<'a> {
+    sheet: &'a [u8],
+    text: &'a [u8],
+}
+
+/// Two lengths of 32 bits, then the sheet, then the text.
+fn records(mut bytes: &[u8]) -> Vec<Record<'_>> {
+    let mut found = Vec::new();
+    while !bytes.is_empty() {
+        let (lengths, rest) = bytes.split_at(8);
+        let sheet_length = u32::from_le_bytes(lengths[..4].try_into().unwrap());
+        let text_length = u32::from_le_bytes(lengths[4..].try_into().unwrap());
+        let (sheet, rest) = rest.split_at(sheet_length as usize);
+        let (text, rest) = rest.split_at(text_length as usize);
+        found.push(Record { sheet, text });
+        bytes = rest;
+    }
+    found
+}
+
+fn corpus() -> Vec<u8> {
+    let path = env::var_os("CORPUS").map_or_else(|| PathBuf::from(DEFAULT), PathBuf::from);
+    fs::read(&path).unwrap_or_else(|fault| panic!("{}: {fault}", path.display()))
+}
+
+#[test]
+fn every_listing_agrees() {
+    let bytes = corpus();
+    let records = records(&bytes);
+    assert_eq!(records.len(), 330);
+    for (place, record) in records.iter().enumerate() {
+        let mut text = Vec::new();
+        listing::list(record.sheet, &mut text);
+        assert!(
+            text == record.text,
+            "record {place}: expected\n{}got\n{}",
+            String::from_utf8_lossy(record.text),
+            String::from_utf8_lossy(&text)
+        );
+    }
+}
+
+#[test]
+fn the_call_writes_at_the_front_alone() {
+    let bytes = corpus();
+    for record in records(&bytes) {
+        let mut out = vec![0xA5; calls::LIST_ROOM];
+        assert_eq!(calls::list(record.sheet, &mut out), record.text.len());
+        assert_eq!(&out[..record.text.len()], record.text);
+        assert!(out[record.text.len()..].iter().all(|&byte| byte == 0xA5));
+        assert_eq!(calls::list(record.sheet, &mut out[1..]), 0);
+    }
+}

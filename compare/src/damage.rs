@@ -1,0 +1,218 @@
+//! Sheets that break the rules, one at a time or several at once.
+
+use crate::draft;
+use crate::random::Random;
+
+/// A sheet with one to three damages. Some of them leave it sound.
+pub fn sheet(random: &mut Random) -> Vec<u8> {
+    let mut items = draft::items(random);
+    let damages = 1 + [0, 0, 1, 2][random.below(4)];
+    let on_bytes = (0..damages).filter(|_| random.once_in(3)).count();
+    let target = random.below(items.len());
+    for _ in on_bytes..damages {
+        // Half of the time the same item, so that the order of its rules is met.
+        let place = if random.once_in(2) {
+            target
+        } else {
+            random.below(items.len())
+        };
+        let place = place.min(items.len() - 1);
+        harm_items(random, &mut items, place);
+    }
+    items.truncate(draft::MAX_ITEMS);
+    let mut sheet = draft::sheet(random, &items);
+    for _ in 0..on_bytes {
+        harm_bytes(random, &mut sheet);
+    }
+    sheet
+}
+
+fn harm_items(random: &mut Random, items: &mut Vec<Vec<u8>>, place: usize) {
+    match random.below(10) {
+        0..=2 => outside(random, &mut items[place]),
+        3 => change_kind(random, &mut items[place]),
+        4 => change_length(random, &mut items[place]),
+        5 => misplace_site(random, items, place),
+        6 => {
+            let high = random.pick(&[1_501, 1_502, 0xFFFF]);
+            draft::put(&mut items[0], draft::ALTITUDE, high);
+        }
+        7 => items.push(bad_count(random)),
+        8 => items.push(bad_valley(random)),
+        _ => items.push(bad_arch(random)),
+    }
+}
+
+/// One field just outside its range, or far off.
+fn outside(random: &mut Random, item: &mut [u8]) {
+    let fields = draft::fields(item);
+    if fields.is_empty() {
+        return;
+    }
+    let field = random.pick(&fields);
+    let below = field.low.wrapping_sub(1);
+    let value = random.pick(&[below, field.high + 1, field.high + 2, u32::MAX, 1 << 31]);
+    draft::put(item, field, value);
+}
+
+fn change_kind(random: &mut Random, item: &mut [u8]) {
+    if let Some(kind) = item.first_mut() {
+        *kind = random.pick(&[0, 1, 2, 3, 4, 5, 6, 7, 8, 9, 128, 255]);
+    }
+}
+
+fn change_length(random: &mut Random, item: &mut Vec<u8>) {
+    match random.below(5) {
+        0 => item.clear(),
+        1 => item.truncate(1),
+        2 => item.truncate(item.len().saturating_sub(1)),
+        3 => item.push(0),
+        _ => draft::noise(random, item, 12),
+    }
+}
+
+/// A later site, or a first item that is none.
+fn misplace_site(random: &mut Random, items: &mut Vec<Vec<u8>>, place: usize) {
+    let last = items.len() - 1;
+    match random.below(4) {
+        0 => items.swap(0, last),
+        1 if last > 0 => drop(items.remove(0)),
+        _ => {
+            let site = draft::item(random, draft::SITE);
+            items.insert(place + 1, site);
+        }
+    }
+}
+
+/// A multi-span roof whose length fits a count outside 2..16, or whose count misses its length.
+fn bad_count(random: &mut Random) -> Vec<u8> {
+    let count = random.pick(&[0, 1, 17, 18, 255]);
+    let mut item = vec![0; 2 + 12 * usize::from(count)];
+    item[0] = draft::MULTI_SPAN;
+    item[1] = count;
+    if random.once_in(3) {
+        item[1] = random.byte();
+    }
+    item
+}
+
+/// A multi-span roof with steep slopes at a valley. 60.0° beside 59.9° is sound.
+fn bad_valley(random: &mut Random) -> Vec<u8> {
+    let spans = random.between(2, 16) as usize;
+    let mut item = draft::multi_span(random, spans);
+    let (left, right) = draft::valley_fields(1 + random.below(spans - 1));
+    let pair = random.pick(&[
+        (600, 600),
+        (601, 0),
+        (0, 601),
+        (599, 600),
+        (600, 599),
+        (800, 800),
+        (600, 601),
+    ]);
+    draft::put(&mut item, left, pair.0);
+    draft::put(&mut item, right, pair.1);
+    if random.once_in(4) {
+        outside(random, &mut item);
+    }
+    item
+}
+
+/// An arch that is too high, sometimes with a figure outside its range as well.
+fn bad_arch(random: &mut Random) -> Vec<u8> {
+    let mut item = draft::item(random, draft::CYLINDRICAL);
+    let fields = draft::fields(&item);
+    let rise = random.between(2, 15_000);
+    let low = if random.once_in(2) { 2 * rise - 1 } else { 2 };
+    draft::put(&mut item, fields[0], rise);
+    draft::put(&mut item, fields[1], random.between(2, low.max(2)).max(low));
+    if random.once_in(6) {
+        outside(random, &mut item);
+    }
+    item
+}
+
+fn harm_bytes(random: &mut Random, sheet: &mut Vec<u8>) {
+    match random.below(8) {
+        0 | 1 => flip(random, sheet),
+        2 => truncate(random, sheet),
+        3 => extend(random, sheet),
+        4 => change_count(random, sheet),
+        _ => change_pair(random, sheet),
+    }
+}
+
+/// Some bits or bytes anywhere, half of the time among the pairs.
+fn flip(random: &mut Random, sheet: &mut [u8]) {
+    for _ in 0..=random.below(3) {
+        if sheet.is_empty() {
+            return;
+        }
+        let most = if random.once_in(2) { 40 } else { sheet.len() };
+        let place = random.below(sheet.len().min(most));
+        if random.once_in(2) {
+            sheet[place] ^= 1 << random.below(8);
+        } else {
+            sheet[place] = random.byte();
+        }
+    }
+}
+
+fn truncate(random: &mut Random, sheet: &mut Vec<u8>) {
+    let length = match random.below(6) {
+        0 => random.below(7),
+        1 | 2 => sheet.len().saturating_sub(1 + random.below(3)),
+        _ => random.below(sheet.len() + 1),
+    };
+    sheet.truncate(length);
+}
+
+/// More bytes at the end, also past the longest sheet.
+fn extend(random: &mut Random, sheet: &mut Vec<u8>) {
+    let left = draft::MAX_SHEET.saturating_sub(sheet.len());
+    let more = random.pick(&[1, left, left + 1, left + 2, left + 60_000]);
+    draft::noise(random, sheet, more);
+}
+
+fn change_count(random: &mut Random, sheet: &mut [u8]) {
+    let Some(place) = sheet.get_mut(..2) else {
+        return;
+    };
+    let count = u16::from_le_bytes([place[0], place[1]]);
+    let changed = random.pick(&[
+        0,
+        count.wrapping_sub(1),
+        count.wrapping_add(1),
+        32,
+        33,
+        count | 0x100,
+        0xFFFF,
+    ]);
+    place.copy_from_slice(&changed.to_le_bytes());
+}
+
+/// Pairs swapped, moved by a little, or thrown far off.
+fn change_pair(random: &mut Random, sheet: &mut [u8]) {
+    let count = usize::from(*sheet.first().unwrap_or(&0)).min(draft::MAX_ITEMS);
+    if count == 0 || sheet.len() < 2 + 4 * count {
+        return;
+    }
+    let place = 2 + 4 * random.below(count);
+    if random.once_in(4) {
+        let other = 2 + 4 * random.below(count);
+        (0..4).for_each(|byte| sheet.swap(place + byte, other + byte));
+        return;
+    }
+    let half = place + 2 * random.below(2);
+    let value = u16::from_le_bytes([sheet[half], sheet[half + 1]]);
+    let changed = random.pick(&[
+        value.wrapping_sub(1),
+        value.wrapping_add(1),
+        value.wrapping_add(12),
+        0,
+        (2 + 4 * count) as u16,
+        sheet.len() as u16,
+        0xFFFF,
+    ]);
+    sheet[half..half + 2].copy_from_slice(&changed.to_le_bytes());
+}

@@ -1,0 +1,310 @@
+//! Sound sheets: items with figures drawn evenly and at the edges of their ranges.
+
+use crate::random::Random;
+
+pub const SITE: u8 = 1;
+const MONOPITCH: u8 = 2;
+const PITCHED: u8 = 3;
+pub const MULTI_SPAN: u8 = 4;
+pub const CYLINDRICAL: u8 = 5;
+const LOWER: u8 = 6;
+const PROJECTION: u8 = 7;
+pub const MAX_SHEET: usize = 16_384;
+pub const MAX_ITEMS: usize = 32;
+pub const MAX_PITCH: u32 = 800;
+/// The situation and the altitude of a site.
+pub const SITUATION: Field = SITE_FIELDS[4];
+pub const ALTITUDE: Field = SITE_FIELDS[5];
+
+/// A field of an item: its place, its bytes, its range and values worth meeting.
+#[derive(Clone, Copy)]
+pub struct Field {
+    pub at: usize,
+    pub bytes: usize,
+    pub low: u32,
+    pub high: u32,
+    pub edges: &'static [u32],
+}
+
+const fn field(at: usize, bytes: usize, low: u32, high: u32, edges: &'static [u32]) -> Field {
+    Field {
+        at,
+        bytes,
+        low,
+        high,
+        edges,
+    }
+}
+
+const fn pitch(at: usize) -> Field {
+    field(
+        at,
+        2,
+        0,
+        MAX_PITCH,
+        &[1, 150, 151, 299, 300, 301, 599, 600, 601],
+    )
+}
+
+const fn guard(at: usize) -> Field {
+    field(at, 1, 0, 1, &[])
+}
+
+const fn width(at: usize) -> Field {
+    field(at, 4, 1, 100_000, &[2, 3, 4_999, 5_000, 5_001, 15_000])
+}
+
+const fn step(at: usize) -> Field {
+    field(at, 4, 1, 30_000, &[300, 2_499, 2_500, 2_501, 7_500, 7_501])
+}
+
+const SITE_FIELDS: [Field; 6] = [
+    field(1, 4, 100, 25_000, &[1_000, 1_001, 1_500, 750]),
+    field(5, 2, 80, 120, &[100]),
+    field(7, 2, 1, 100, &[100, 99]),
+    field(9, 2, 100, 300, &[200]),
+    field(11, 1, 0, 1, &[]),
+    field(12, 2, 0, 1_500, &[800, 801]),
+];
+const MONOPITCH_FIELDS: [Field; 3] = [pitch(1), guard(3), width(4)];
+const PITCHED_FIELDS: [Field; 6] = [pitch(1), pitch(3), guard(5), guard(6), width(7), width(11)];
+const ARCH_FIELDS: [Field; 2] = [
+    field(1, 4, 1, 15_000, &[1_000]),
+    field(5, 4, 2, 30_000, &[2_000]),
+];
+const LOWER_FIELDS: [Field; 6] = [width(1), width(5), step(9), width(13), pitch(17), guard(19)];
+const PROJECTION_FIELDS: [Field; 3] = [step(1), width(5), width(9)];
+
+/// The fields of an item, for a multi-span roof those of its spans.
+pub fn fields(item: &[u8]) -> Vec<Field> {
+    match item.first() {
+        Some(&SITE) => SITE_FIELDS.to_vec(),
+        Some(&MONOPITCH) => MONOPITCH_FIELDS.to_vec(),
+        Some(&PITCHED) => PITCHED_FIELDS.to_vec(),
+        Some(&MULTI_SPAN) => span_fields(item.len().saturating_sub(2) / 12),
+        Some(&CYLINDRICAL) => ARCH_FIELDS.to_vec(),
+        Some(&LOWER) => LOWER_FIELDS.to_vec(),
+        Some(&PROJECTION) => PROJECTION_FIELDS.to_vec(),
+        _ => Vec::new(),
+    }
+}
+
+fn span_fields(spans: usize) -> Vec<Field> {
+    let span = |number| {
+        let at = 2 + 12 * number;
+        [pitch(at), pitch(at + 2), width(at + 4), width(at + 8)]
+    };
+    (0..spans).flat_map(span).collect()
+}
+
+/// Writes a field where the item has it.
+pub fn put(item: &mut [u8], field: Field, value: u32) {
+    if let Some(place) = item.get_mut(field.at..field.at + field.bytes) {
+        place.copy_from_slice(&value.to_le_bytes()[..field.bytes]);
+    }
+}
+
+pub fn get(item: &[u8], field: Field) -> u32 {
+    let mut value = [0; 4];
+    value[..field.bytes].copy_from_slice(&item[field.at..field.at + field.bytes]);
+    u32::from_le_bytes(value)
+}
+
+/// A value within the range: an edge, an even draw, or one that is often small.
+pub fn draw(random: &mut Random, field: Field) -> u32 {
+    match random.below(8) {
+        0 => random.pick(&[field.low, field.high, field.low + 1, field.high - 1]),
+        1 | 2 if !field.edges.is_empty() => random.pick(field.edges),
+        3 | 4 => {
+            let high = random.between(field.low, field.high);
+            random.between(field.low, high)
+        }
+        _ => random.between(field.low, field.high),
+    }
+}
+
+/// A sound item of a kind.
+pub fn item(random: &mut Random, kind: u8) -> Vec<u8> {
+    match kind {
+        MULTI_SPAN => {
+            let spans = match random.below(4) {
+                0 => 2,
+                1 => 16,
+                _ => random.between(2, 16),
+            };
+            multi_span(random, spans as usize)
+        }
+        CYLINDRICAL => cylindrical(random),
+        LOWER => lower(random),
+        PROJECTION => projection(random),
+        _ => filled(random, blank(kind)),
+    }
+}
+
+fn blank(kind: u8) -> Vec<u8> {
+    let length = match kind {
+        SITE => 14,
+        MONOPITCH => 8,
+        PITCHED => 15,
+        CYLINDRICAL => 9,
+        LOWER => 20,
+        _ => 13,
+    };
+    let mut item = vec![0; length];
+    item[0] = kind;
+    item
+}
+
+fn filled(random: &mut Random, mut item: Vec<u8>) -> Vec<u8> {
+    for field in fields(&item) {
+        let value = draw(random, field);
+        put(&mut item, field, value);
+    }
+    item
+}
+
+/// A multi-span roof whose valleys keep the rule.
+pub fn multi_span(random: &mut Random, spans: usize) -> Vec<u8> {
+    let mut item = vec![0; 2 + 12 * spans];
+    item[0] = MULTI_SPAN;
+    item[1] = spans as u8;
+    let mut item = filled(random, item);
+    for valley in 1..spans {
+        let (left, right) = valley_fields(valley);
+        let pitches = [get(&item, left).min(600), get(&item, right).min(600)];
+        put(&mut item, left, pitches[0].min(1_199 - pitches[1]));
+        put(&mut item, right, pitches[1]);
+    }
+    item
+}
+
+/// The two pitches at a valley, numbered from 1.
+pub fn valley_fields(valley: usize) -> (Field, Field) {
+    (pitch(2 + 12 * valley - 10), pitch(2 + 12 * valley))
+}
+
+/// Roofs with one pitch in every place that has one, on the site with the heaviest snow.
+pub fn pitch_items(pitch: u32) -> Vec<Vec<u8>> {
+    let kinds = [SITE, MONOPITCH, MONOPITCH, PITCHED, LOWER];
+    let mut items = kinds.map(|kind| highest(blank(kind))).to_vec();
+    put(&mut items[1], MONOPITCH_FIELDS[0], pitch);
+    put(&mut items[2], MONOPITCH_FIELDS[0], pitch);
+    put(&mut items[2], MONOPITCH_FIELDS[1], 0);
+    put(&mut items[3], PITCHED_FIELDS[0], pitch);
+    put(&mut items[3], PITCHED_FIELDS[1], MAX_PITCH - pitch);
+    put(&mut items[4], LOWER_FIELDS[4], pitch);
+    put(&mut items[4], LOWER_FIELDS[5], pitch % 2);
+    // A valley takes 60.0° at most, beside a slope below that.
+    let mut spans = highest(vec![MULTI_SPAN, 2].into_iter().chain([0; 24]).collect());
+    let (left, right) = valley_fields(1);
+    put(&mut spans, left, pitch.min(600));
+    put(&mut spans, right, pitch.saturating_sub(600));
+    items.push(spans);
+    items
+}
+
+fn highest(mut item: Vec<u8>) -> Vec<u8> {
+    for field in fields(&item) {
+        put(&mut item, field, field.high);
+    }
+    item
+}
+
+/// Arches of every form, many at 2 × rise = span, 12 × rise² = span² and μ3 = 2.0.
+fn cylindrical(random: &mut Random) -> Vec<u8> {
+    let rise = draw(random, ARCH_FIELDS[0]);
+    let near = random.between(0, 2);
+    let span = match random.below(5) {
+        0 => 2 * rise + near,
+        1 => (12 * u64::from(rise).pow(2)).isqrt() as u32 + near,
+        2 => (10 * rise).div_ceil(2) + near,
+        3 => (100 * rise / 18 + near).saturating_sub(1),
+        _ => draw(random, ARCH_FIELDS[1]),
+    };
+    let span = span.clamp(2, 30_000);
+    let mut item = blank(CYLINDRICAL);
+    put(&mut item, ARCH_FIELDS[0], rise.min(span / 2));
+    put(&mut item, ARCH_FIELDS[1], span);
+    item
+}
+
+/// A width close to the drift's length, at a step.
+fn near_drift(random: &mut Random, step: u32) -> u32 {
+    (2 * step).clamp(5_000, 15_000) + random.between(0, 2) - 1
+}
+
+fn lower(random: &mut Random) -> Vec<u8> {
+    let mut item = filled(random, blank(LOWER));
+    if random.once_in(3) {
+        let width = near_drift(random, get(&item, LOWER_FIELDS[2]));
+        put(&mut item, LOWER_FIELDS[1], width);
+    }
+    item
+}
+
+fn projection(random: &mut Random) -> Vec<u8> {
+    let mut item = filled(random, blank(PROJECTION));
+    let step = get(&item, PROJECTION_FIELDS[0]);
+    for side in [1, 2] {
+        if random.once_in(3) {
+            let width = near_drift(random, step);
+            put(&mut item, PROJECTION_FIELDS[side], width);
+        }
+    }
+    item
+}
+
+/// The items of a sound sheet, the site first.
+pub fn items(random: &mut Random) -> Vec<Vec<u8>> {
+    let roofs = match random.below(16) {
+        0 => 0,
+        1 => MAX_ITEMS - 1,
+        2 | 3 => random.below(MAX_ITEMS),
+        _ => 1 + random.below(4),
+    };
+    let mut items = vec![item(random, SITE)];
+    for _ in 0..roofs {
+        let kind = random.between(2, 7) as u8;
+        items.push(item(random, kind));
+    }
+    items
+}
+
+/// Puts items into a sheet, with gaps before, between and behind them.
+pub fn sheet(random: &mut Random, items: &[Vec<u8>]) -> Vec<u8> {
+    let gaps = random.once_in(2);
+    let mut body = Vec::new();
+    let mut pairs = Vec::new();
+    for item in items {
+        if gaps {
+            let gap = random.below(6);
+            noise(random, &mut body, gap);
+        }
+        pairs.push((2 + 4 * items.len() + body.len(), item.len()));
+        body.extend_from_slice(item);
+    }
+    let mut sheet = (items.len() as u16).to_le_bytes().to_vec();
+    for (offset, length) in pairs {
+        sheet.extend((offset as u16).to_le_bytes());
+        sheet.extend((length as u16).to_le_bytes());
+    }
+    sheet.extend(body);
+    fill_up(random, &mut sheet);
+    sheet
+}
+
+/// Sometimes bytes behind the last item, now and then up to the longest sheet.
+fn fill_up(random: &mut Random, sheet: &mut Vec<u8>) {
+    let left = MAX_SHEET.saturating_sub(sheet.len());
+    let more = match random.below(64) {
+        0 => left,
+        1 => random.below(left + 1),
+        2..=9 => random.below(8),
+        _ => 0,
+    };
+    noise(random, sheet, more);
+}
+
+pub fn noise(random: &mut Random, bytes: &mut Vec<u8>, count: usize) {
+    bytes.extend((0..count).map(|_| random.byte()));
+}

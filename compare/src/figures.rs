@@ -1,0 +1,170 @@
+//! The figures that the calculation is held against.
+
+use crate::arrangement::{loaded_width, Arrangement};
+use crate::forces;
+use crate::sheet::{Item, Items, Roof, Site, Slope};
+
+const SITE: Site = Site {
+    ground_load: 1_000,
+    exposure: 100,
+    thermal: 100,
+    exceptional: 200,
+    has_exceptional_falls: false,
+    altitude: 500,
+};
+
+fn snow(ground_load: u32) -> Site {
+    Site {
+        ground_load,
+        ..SITE
+    }
+}
+
+fn segments(site: &Site, roof: &Roof, code: u8) -> Vec<[u32; 4]> {
+    let made = Arrangement::of(site, roof, code).expect("the code exists");
+    made.stretches().iter().map(|part| part.segment()).collect()
+}
+
+/// A roof from its bytes, by way of a sheet.
+fn roof(bytes: &[u8]) -> Result<Roof, u8> {
+    let mut sheet = vec![2, 0, 10, 0, 14, 0, 24, 0, bytes.len() as u8, 0];
+    sheet.extend([1, 0xE8, 3, 0, 0, 100, 0, 100, 0, 200, 0, 0, 0xF4, 1]);
+    sheet.extend(bytes);
+    let item = Items::of(&sheet).unwrap().nth(1).unwrap();
+    match item.map_err(|refusal| refusal.number)? {
+        Item::Roof(roof) => Ok(roof),
+        Item::Site(_) => unreachable!(),
+    }
+}
+
+fn words(kind: u8, words: &[u32]) -> Vec<u8> {
+    let mut bytes = vec![kind];
+    words
+        .iter()
+        .for_each(|word| bytes.extend(word.to_le_bytes()));
+    bytes
+}
+
+fn lower(widths: [u32; 4], pitch: u16) -> Roof {
+    let mut bytes = words(6, &widths);
+    bytes.extend(pitch.to_le_bytes());
+    bytes.push(0);
+    roof(&bytes).unwrap()
+}
+
+fn two_spans(left: u16, right: u16) -> Result<Roof, u8> {
+    let mut bytes = vec![4, 2];
+    for pitches in [[0, left], [right, 0]] {
+        bytes.extend(pitches.into_iter().flat_map(u16::to_le_bytes));
+        bytes.extend([4_000_u32, 4_000].into_iter().flat_map(u32::to_le_bytes));
+    }
+    roof(&bytes)
+}
+
+#[test]
+fn monopitch() {
+    let load = |site: &Site, pitch, guard| {
+        let width = 5_000;
+        let slope = Slope {
+            pitch,
+            guard,
+            width,
+        };
+        segments(site, &Roof::Monopitch(slope), 1)[0][2]
+    };
+    assert_eq!(
+        [300, 301, 599, 600].map(|p| load(&SITE, p, false)),
+        [800, 798, 3, 0]
+    );
+    assert_eq!(load(&SITE, 600, true), 800);
+    assert_eq!(load(&snow(1_001), 300, false), 801);
+}
+
+#[test]
+fn pitched() {
+    let slope = |pitch| Slope {
+        pitch,
+        guard: false,
+        width: 4_000,
+    };
+    let roof = Roof::Pitched([slope(200), slope(400)]);
+    let loads = |code| {
+        let made = segments(&snow(1_500), &roof, code);
+        (made[0][2], made[1][2])
+    };
+    assert_eq!([1, 2, 3].map(loads), [(1200, 800), (600, 800), (1200, 400)]);
+}
+
+#[test]
+fn valleys() {
+    let valley = |left, right| Ok(segments(&SITE, &two_spans(left, right)?, 2)[1][3]);
+    assert_eq!(valley(200, 100), Ok(1_200));
+    assert_eq!(valley(300, 300), Ok(1_600));
+    assert_eq!(valley(600, 599), Ok(1_600));
+    assert_eq!(valley(600, 600), Err(9));
+    assert_eq!(valley(0, 601), Err(9));
+}
+
+#[test]
+fn cylindrical() {
+    let peaks = |rise, span| {
+        let made = segments(&SITE, &Roof::Cylindrical { rise, span }, 2);
+        (made[0][3], made[2][3])
+    };
+    assert_eq!(peaks(3_000, 20_000), (850, 1_700));
+    assert_eq!(peaks(4_000, 20_000), (1_000, 2_000));
+    assert_eq!(loaded_width(1_000, 2_000), 1_733);
+    assert_eq!(loaded_width(1_000, 3_464), 3_464);
+    assert!(matches!(roof(&words(5, &[1_001, 2_000])), Err(10)));
+    let arch = roof(&words(5, &[1_000, 2_000])).unwrap();
+    let ends: Vec<_> = segments(&SITE, &arch, 2)
+        .iter()
+        .map(|part| part[1])
+        .collect();
+    assert_eq!(ends, [534, 2267, 4000, 5733, 7466, 8000]);
+}
+
+/// The least whole number by its definition, for every small arch.
+#[test]
+fn loaded_width_is_the_least() {
+    for span in 2_u64..200 {
+        for rise in (1..=span / 2).filter(|rise| 12 * rise * rise > span * span) {
+            let enough = |width: u64| {
+                (8 * rise * width).pow(2) >= 3 * (span * span + 4 * rise * rise).pow(2)
+            };
+            let width = u64::from(loaded_width(rise as u32, span as u32));
+            assert!(enough(width) && !enough(width - 1) && width <= span);
+        }
+    }
+}
+
+#[test]
+fn lower_roof() {
+    let wall = |roof: &Roof| segments(&SITE, roof, 2)[0][2];
+    let long = lower([10_000, 20_000, 3_000, 6_000], 100);
+    assert_eq!(wall(&long), 4_000);
+    let made = Arrangement::of(&SITE, &long, 2).unwrap();
+    assert_eq!(made.reading(12_000), Some(2_400));
+    assert_eq!(wall(&lower([10_000, 20_000, 3_000, 6_000], 200)), 4_800);
+    assert_eq!(wall(&lower([10_000, 20_000, 3_000, 6_000], 150)), 4_000);
+    let short = segments(&SITE, &lower([10_000, 3_000, 3_000, 6_000], 100), 2);
+    assert_eq!(short, [[0, 12_000, 2_167, 1_484]]);
+    let low = segments(&SITE, &lower([10_000, 20_000, 300, 6_000], 100), 2);
+    assert!(low.iter().all(|part| part[2..] == [800, 800]));
+}
+
+#[test]
+fn overhang() {
+    let force = |ground_load, altitude| {
+        let site = Site {
+            ground_load,
+            altitude,
+            ..SITE
+        };
+        forces::overhang(&site, Slope::default())
+    };
+    assert_eq!(force(1_250, 801), Some(334));
+    assert_eq!(force(3_750, 801), Some(9_000));
+    assert_eq!(force(3_751, 801), Some(9_003));
+    assert_eq!(force(1_250, 800), None);
+}

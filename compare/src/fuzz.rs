@@ -1,0 +1,190 @@
+//! Random questions about random sheets.
+
+use std::hint::black_box;
+
+use second::calls::LIST_ROOM;
+
+use crate::check::{Asked, Checker, MAX_LIST_ROOM};
+use crate::damage;
+use crate::draft;
+use crate::random::Random;
+use crate::tally::LENGTHS;
+
+/// Items of one sheet that are asked about closely.
+const CLOSE: usize = 3;
+/// The codes of the rules, those beside them, and some that never exist.
+const CODES: [u8; 18] = [
+    0, 1, 2, 3, 4, 5, 6, 7, 8, 9, 10, 11, 12, 13, 14, 21, 128, 255,
+];
+const SLOPES: [u8; 5] = [0, 1, 2, 3, 255];
+
+pub struct Fuzz {
+    pub checker: Checker,
+    random: Random,
+    next_length: usize,
+}
+
+impl Fuzz {
+    pub fn new(seed: u64) -> Self {
+        Self {
+            checker: Checker::new(),
+            random: Random::new(seed),
+            next_length: 0,
+        }
+    }
+
+    /// Every second sheet is damaged.
+    pub fn run(&mut self, sheets: u64) {
+        for number in 0..sheets {
+            let sheet = if number % 2 == 0 {
+                let items = draft::items(&mut self.random);
+                draft::sheet(&mut self.random, &items)
+            } else {
+                damage::sheet(&mut self.random)
+            };
+            self.ask_anywhere(&sheet);
+        }
+    }
+
+    /// Every pitch under the heaviest snow, where each entry of a table shows in the forces.
+    pub fn sweep(&mut self) {
+        for pitch in 0..=draft::MAX_PITCH {
+            let items = draft::pitch_items(pitch);
+            let sheet = draft::sheet(&mut self.random, &items);
+            self.ask_anywhere(&sheet);
+            let asked = Asked {
+                sheet: &sheet,
+                count: items.len(),
+            };
+            for item in 1..items.len() {
+                for slope in SLOPES {
+                    self.checker.overhang(asked, item, slope);
+                    self.checker.guard_force(asked, item, slope);
+                }
+            }
+        }
+    }
+
+    /// The sheet may start anywhere in memory, and no call may alter it.
+    fn ask_anywhere(&mut self, sheet: &[u8]) {
+        let shift = self.random.below(8);
+        let mut shifted = vec![0; shift];
+        shifted.extend_from_slice(sheet);
+        self.ask(&shifted[shift..]);
+        black_box(&mut shifted);
+        if shifted[shift..] != *sheet {
+            let describe = || "a call altered the sheet".to_string();
+            self.checker.tally.disagree(sheet, describe);
+        }
+    }
+
+    fn ask(&mut self, sheet: &[u8]) {
+        let asked = self.checker.verdict(sheet);
+        self.lists(sheet);
+        self.index_questions(asked);
+        if asked.count > 1 {
+            for _ in 0..CLOSE.min(asked.count - 1) {
+                let item = 1 + self.random.below(asked.count - 1);
+                self.item_questions(asked, item);
+            }
+        }
+    }
+
+    fn lists(&mut self, sheet: &[u8]) {
+        self.checker.list(sheet, LIST_ROOM);
+        if self.random.once_in(8) {
+            let less = self.random.below(LIST_ROOM);
+            let more = LIST_ROOM + self.random.below(MAX_LIST_ROOM - LIST_ROOM + 1);
+            let rooms = [0, 1, LIST_ROOM - 1, less, LIST_ROOM + 1, more];
+            let room = self.random.pick(&rooms);
+            self.checker.list(sheet, room);
+        }
+    }
+
+    /// All calls on the site, on an index that is not there, and on a refused sheet.
+    fn index_questions(&mut self, asked: Asked) {
+        let far = self
+            .random
+            .pick(&[255, 256, 257, 65_536, 1 << 32, usize::MAX]);
+        let some = self.random.below(40);
+        for item in [0, asked.count, asked.count + 1, far, some] {
+            let code = self.random.pick(&CODES);
+            let slope = self.random.pick(&SLOPES);
+            let room = self.next_length();
+            let station = self.random.next() as u32 >> self.random.below(32);
+            self.checker.make(asked, item, code, room);
+            self.checker.load(asked, item, code, station);
+            self.checker.overhang(asked, item, slope);
+            self.checker.guard_force(asked, item, slope);
+        }
+    }
+
+    fn item_questions(&mut self, asked: Asked, item: usize) {
+        for slope in SLOPES {
+            self.checker.overhang(asked, item, slope);
+            self.checker.guard_force(asked, item, slope);
+        }
+        for code in CODES {
+            let room = self.next_length();
+            self.checker.make(asked, item, code, room);
+        }
+        let code = self.random.byte();
+        self.checker.make(asked, item, code, 128);
+        // The codes that exist are met again with slices around the right length.
+        for code in [1, 2, 3, 11, 12, 13] {
+            self.arrangement_questions(asked, item, code);
+        }
+    }
+
+    fn arrangement_questions(&mut self, asked: Asked, item: usize, code: u8) {
+        let numbers = self.checker.make(asked, item, code, 128);
+        if numbers.is_empty() {
+            let station = self.random.pick(&[0, 1, 4_000, u32::MAX]);
+            self.checker.load(asked, item, code, station);
+            return;
+        }
+        let enough = numbers.len();
+        for room in [enough - 1, enough, enough + 1, enough - 4] {
+            self.checker.make(asked, item, code, room);
+        }
+        // Of a long roof some segments suffice, as all are met over the run.
+        let segments = enough / 4;
+        let first = self.random.below(segments);
+        for segment in numbers.chunks_exact(4).cycle().skip(first).take(6) {
+            self.segment_stations(asked, item, code, segment);
+        }
+        self.end_stations(asked, item, code, numbers[enough - 3]);
+    }
+
+    fn segment_stations(&mut self, asked: Asked, item: usize, code: u8, segment: &[u32]) {
+        let (start, end) = (segment[0], segment[1]);
+        let inside = self.random.between(start, end);
+        for station in [start.saturating_sub(1), start, start + 1, inside] {
+            self.checker.load(asked, item, code, station);
+        }
+    }
+
+    fn end_stations(&mut self, asked: Asked, item: usize, code: u8, end: u32) {
+        let beyond = end + self.random.between(1, 1_000_000);
+        let wrapped = end.wrapping_add(1 << 31);
+        for station in [0, end - 1, end, end + 1, beyond, wrapped, u32::MAX] {
+            self.checker.load(asked, item, code, station);
+        }
+    }
+
+    /// Lengths in turn, so that a run goes through all of them.
+    fn next_length(&mut self) -> usize {
+        self.next_length = (self.next_length + 1) % LENGTHS;
+        self.next_length
+    }
+}
+
+/// A sheet of the heaviest kind: 31 multi-span roofs of 16 spans in situation 1.
+pub fn heavy_sheet(random: &mut Random) -> Vec<u8> {
+    let mut items = vec![draft::item(random, draft::SITE)];
+    draft::put(&mut items[0], draft::SITUATION, 1);
+    for _ in 1..draft::MAX_ITEMS {
+        items.push(draft::multi_span(random, 16));
+    }
+    draft::sheet(random, &items)
+}

@@ -1,0 +1,149 @@
+//! Shape coefficients as exact fractions, and the loads that they give.
+
+use crate::sheet::{LowerRoof, Site, Slope, SLIDING_PITCH};
+
+/// Denominator of the coefficients of Table 5.2 when the pitch is in tenths of a degree.
+const TABLE: u64 = 375;
+/// 0.8 over that denominator.
+const FLAT: u64 = 300;
+/// 15.0 degrees, up to which no snow slides off the upper roof (5.3.6).
+const SLIDE_FROM: u16 = 150;
+
+/// A shape coefficient μ.
+#[derive(Clone, Copy, Debug)]
+pub struct Shape {
+    numerator: u64,
+    denominator: u64,
+}
+
+impl Shape {
+    pub const ZERO: Self = Self::new(0, 1);
+    /// 0.8, the coefficient of a flat roof.
+    pub const EVEN: Self = Self::new(4, 5);
+
+    pub const fn new(numerator: u64, denominator: u64) -> Self {
+        Self {
+            numerator,
+            denominator,
+        }
+    }
+
+    pub fn half(self) -> Self {
+        Self::new(self.numerator, 2 * self.denominator)
+    }
+
+    fn at_most(self, other: Self) -> Self {
+        if other.is_below(self) {
+            other
+        } else {
+            self
+        }
+    }
+
+    fn at_least(self, other: Self) -> Self {
+        if self.is_below(other) {
+            other
+        } else {
+            self
+        }
+    }
+
+    fn is_below(self, other: Self) -> bool {
+        self.numerator * other.denominator < other.numerator * self.denominator
+    }
+}
+
+/// μ1 of Table 5.2. A guard keeps the snow on the slope.
+pub fn mu1(slope: Slope) -> Shape {
+    let numerator = if slope.guard {
+        FLAT
+    } else {
+        u64::from(SLIDING_PITCH.saturating_sub(slope.pitch)).min(FLAT)
+    };
+    Shape::new(numerator, TABLE)
+}
+
+/// μ2 of Table 5.2 for the mean of a valley's two pitches.
+pub fn mu_valley(left: Slope, right: Slope) -> Shape {
+    let sum = u64::from(left.pitch + right.pitch);
+    Shape::new(2 * FLAT + sum.min(2 * FLAT), 2 * TABLE)
+}
+
+/// μ3 of a cylindrical roof (5.3.5): 0.2 + 10 × rise/span, at most 2.0.
+pub fn mu_arch(rise: u32, span: u32) -> Shape {
+    let (rise, span) = (u64::from(rise), u64::from(span));
+    Shape::new(span + 50 * rise, 5 * span).at_most(Shape::new(2, 1))
+}
+
+/// Length of a drift in mm: twice the step, held to 5 m..15 m.
+pub fn drift_length(step: u32) -> u32 {
+    (2 * step).clamp(5_000, 15_000)
+}
+
+/// γh/sk with γ = 2 kN/m³, in mm and N/m².
+fn mu_full_step(step: u32, site: &Site) -> Shape {
+    Shape::new(2 * u64::from(step), u64::from(site.ground_load))
+}
+
+/// μw of a lower roof. The limits above come first, then 0.8 below.
+pub fn mu_wind(roof: &LowerRoof, site: &Site) -> Shape {
+    let widths = u64::from(roof.upper_width) + u64::from(roof.lower_width);
+    Shape::new(widths, 2 * u64::from(roof.step))
+        .at_most(mu_full_step(roof.step, site))
+        .at_most(Shape::new(4, 1))
+        .at_least(Shape::EVEN)
+}
+
+/// μs of a lower roof: half of the upper slope's snow, as a triangle along the drift.
+pub fn mu_slide(roof: &LowerRoof) -> Shape {
+    if roof.upper_slope.pitch <= SLIDE_FROM {
+        return Shape::ZERO;
+    }
+    let upper = mu1(roof.upper_slope);
+    Shape::new(
+        upper.numerator * u64::from(roof.upper_slope.width),
+        upper.denominator * u64::from(drift_length(roof.step)),
+    )
+}
+
+/// μ2 at a projection (6.2).
+pub fn mu_projection(height: u32, site: &Site) -> Shape {
+    mu_full_step(height, site)
+        .at_most(Shape::new(2, 1))
+        .at_least(Shape::EVEN)
+}
+
+/// All that a load has beside μ, as a fraction.
+///
+/// The largest product is that of μs: 300 × 100,000 × 120 × 100 × 25,000 × 300 is below 2^63.
+#[derive(Clone, Copy, Debug)]
+pub struct Fall {
+    weight: u64,
+    scale: u64,
+}
+
+impl Fall {
+    /// Ce × Ct × sk (5.1).
+    pub fn persistent(site: &Site) -> Self {
+        let factors = u64::from(site.exposure) * u64::from(site.thermal);
+        Self {
+            weight: factors * u64::from(site.ground_load),
+            scale: 10_000,
+        }
+    }
+
+    /// The same times Cesl (5.2).
+    pub fn exceptional(site: &Site) -> Self {
+        let persistent = Self::persistent(site);
+        Self {
+            weight: persistent.weight * u64::from(site.exceptional),
+            scale: persistent.scale * 100,
+        }
+    }
+
+    /// The load of a coefficient, rounded up.
+    pub fn load(self, mu: Shape) -> u32 {
+        let load = (mu.numerator * self.weight).div_ceil(mu.denominator * self.scale);
+        load as u32 // below 2,000,000 for every accepted roof
+    }
+}

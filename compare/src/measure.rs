@@ -1,0 +1,127 @@
+//! The time of the library against that of the second calculation.
+
+use std::hint::black_box;
+use std::time::Instant;
+
+use second::calls::{self, LIST_ROOM};
+use second::listing;
+
+use crate::ffi;
+use crate::fuzz::heavy_sheet;
+use crate::random::Random;
+
+const SHEETS: usize = 8;
+const BATCHES: usize = 101;
+const CODES: [u8; 4] = [1, 2, 11, 12];
+
+/// Times of the batches of both sides in nanoseconds for one sheet.
+struct Times {
+    library: Vec<f64>,
+    second: Vec<f64>,
+}
+
+pub fn print(seed: u64) {
+    let mut random = Random::new(seed);
+    let sheets: Vec<_> = (0..SHEETS).map(|_| heavy_sheet(&mut random)).collect();
+    let lines: usize = sheets.iter().map(|sheet| lines(sheet)).sum();
+    println!(
+        "TIMES {SHEETS} sheets of 31 roofs with 16 spans, {} lines a listing, best of {BATCHES} batches",
+        lines / SHEETS
+    );
+    listing_times(&sheets).print("listing");
+    verdict_times(&sheets).print("verdict");
+    make_times(&sheets).print("making");
+}
+
+fn lines(sheet: &[u8]) -> usize {
+    let mut text = Vec::new();
+    listing::list(sheet, &mut text);
+    text.iter().filter(|&&byte| byte == b'\n').count()
+}
+
+fn listing_times(sheets: &[Vec<u8>]) -> Times {
+    let mut buffer = vec![0; LIST_ROOM];
+    let mut text = Vec::with_capacity(LIST_ROOM);
+    let library = |sheet: &[u8]| {
+        black_box(ffi::list(sheet, &mut buffer));
+        black_box(&mut buffer);
+    };
+    let second = |sheet: &[u8]| {
+        text.clear();
+        listing::list(sheet, &mut text);
+        black_box(&mut text);
+    };
+    alternate(sheets, 2, library, second)
+}
+
+fn verdict_times(sheets: &[Vec<u8>]) -> Times {
+    let library = |sheet: &[u8]| {
+        black_box(ffi::verdict(sheet));
+    };
+    let second = |sheet: &[u8]| {
+        black_box(calls::verdict(sheet));
+    };
+    alternate(sheets, 50, library, second)
+}
+
+/// Every arrangement of the sheet. Each call checks the sheet anew, on both sides.
+fn make_times(sheets: &[Vec<u8>]) -> Times {
+    let library = |sheet: &[u8]| every_arrangement(sheet, ffi::make);
+    let second = |sheet: &[u8]| every_arrangement(sheet, calls::make);
+    alternate(sheets, 1, library, second)
+}
+
+fn every_arrangement(sheet: &[u8], make: fn(&[u8], usize, u8, &mut [u32]) -> u32) {
+    let mut out = [0; 128];
+    for item in 1..=31 {
+        for code in CODES {
+            black_box(make(sheet, item, code, &mut out));
+            black_box(&mut out);
+        }
+    }
+}
+
+/// Batches of both sides in turn, so that a slow moment of the machine meets both.
+fn alternate(
+    sheets: &[Vec<u8>],
+    rounds: usize,
+    mut library: impl FnMut(&[u8]),
+    mut second: impl FnMut(&[u8]),
+) -> Times {
+    let mut times = Times {
+        library: Vec::new(),
+        second: Vec::new(),
+    };
+    batch(sheets, rounds, &mut library);
+    batch(sheets, rounds, &mut second);
+    for _ in 0..BATCHES {
+        times.library.push(batch(sheets, rounds, &mut library));
+        times.second.push(batch(sheets, rounds, &mut second));
+    }
+    times
+}
+
+fn batch(sheets: &[Vec<u8>], rounds: usize, work: &mut impl FnMut(&[u8])) -> f64 {
+    let start = Instant::now();
+    for _ in 0..rounds {
+        for sheet in sheets {
+            work(black_box(sheet));
+        }
+    }
+    start.elapsed().as_nanos() as f64 / (rounds * sheets.len()) as f64
+}
+
+impl Times {
+    fn print(mut self, name: &str) {
+        self.library.sort_by(f64::total_cmp);
+        self.second.sort_by(f64::total_cmp);
+        let middle = BATCHES / 2;
+        println!(
+            "  {name} library {:.0} ns, second {:.0} ns, ratio {:.2} (medians {:.2})",
+            self.library[0],
+            self.second[0],
+            self.library[0] / self.second[0],
+            self.library[middle] / self.second[middle]
+        );
+    }
+}

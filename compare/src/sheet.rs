@@ -1,0 +1,343 @@
+//! The sheet: its verdict and its items.
+
+use std::ops::RangeInclusive;
+
+/// Bytes of the longest sheet.
+pub const MAX_SHEET: usize = 16_384;
+/// Items of the fullest sheet.
+pub const MAX_ITEMS: usize = 32;
+/// Spans of the longest multi-span roof.
+pub const MAX_SPANS: usize = 16;
+/// Slopes of the longest multi-span roof.
+pub const MAX_SLOPES: usize = 2 * MAX_SPANS;
+/// 60.0 degrees, where snow no longer stays on a slope.
+pub const SLIDING_PITCH: u16 = 600;
+
+const PITCHES: RangeInclusive<u16> = 0..=800;
+const WIDTHS: RangeInclusive<u32> = 1..=100_000;
+const STEPS: RangeInclusive<u32> = 1..=30_000;
+
+/// Numbers of the refusals.
+pub mod number {
+    pub const FRAME: u8 = 1;
+    pub const PAIR: u8 = 2;
+    pub const KIND: u8 = 3;
+    pub const LENGTH: u8 = 4;
+    pub const SITE_PLACE: u8 = 5;
+    pub const SITE_FIELD: u8 = 6;
+    pub const ALTITUDE: u8 = 7;
+    pub const ROOF_FIELD: u8 = 8;
+    pub const VALLEY: u8 = 9;
+    pub const RISE: u8 = 10;
+    pub const ROOM: u8 = 11;
+    pub const PAST_END: u8 = 12;
+    pub const NOT_MADE: u8 = 13;
+}
+
+/// Why there is no answer, and at which item.
+#[derive(Clone, Copy, Debug, PartialEq, Eq)]
+pub struct Refusal {
+    pub number: u8,
+    pub item: usize,
+}
+
+impl Refusal {
+    pub fn new(number: u8, item: usize) -> Self {
+        Self { number, item }
+    }
+}
+
+/// The ground load and its coefficients, in N/m² and hundredths.
+#[derive(Clone, Copy, Debug)]
+pub struct Site {
+    pub ground_load: u32,
+    pub exposure: u16,
+    pub thermal: u16,
+    pub exceptional: u16,
+    /// Situation 1: exceptional falls are to be looked at (Annex A, cases A and B1).
+    pub has_exceptional_falls: bool,
+    pub altitude: u16,
+}
+
+/// A plane roof slope: tenths of a degree and a plan width in mm.
+#[derive(Clone, Copy, Debug, Default)]
+pub struct Slope {
+    pub pitch: u16,
+    pub guard: bool,
+    pub width: u32,
+}
+
+/// The slopes of a multi-span roof from left to right.
+#[derive(Clone, Copy, Debug)]
+pub struct MultiSpan {
+    slopes: [Slope; MAX_SLOPES],
+    count: usize,
+}
+
+impl MultiSpan {
+    pub fn slopes(&self) -> &[Slope] {
+        &self.slopes[..self.count]
+    }
+}
+
+/// A lower flat roof with the wall of a taller one at its left end.
+#[derive(Clone, Copy, Debug)]
+pub struct LowerRoof {
+    pub upper_width: u32,
+    pub lower_width: u32,
+    pub step: u32,
+    pub upper_slope: Slope,
+}
+
+/// A roof whose figures lie within their ranges.
+#[derive(Clone, Copy, Debug)]
+#[allow(clippy::large_enum_variant)] // a sheet holds at most 31 of them
+pub enum Roof {
+    Monopitch(Slope),
+    Pitched([Slope; 2]),
+    MultiSpan(MultiSpan),
+    Cylindrical { rise: u32, span: u32 },
+    Lower(LowerRoof),
+    Projection { height: u32, left: u32, right: u32 },
+}
+
+/// An accepted item.
+#[derive(Clone, Copy, Debug)]
+#[allow(clippy::large_enum_variant)]
+pub enum Item {
+    Site(Site),
+    Roof(Roof),
+}
+
+/// The items of a sheet whose frame and pairs are sound, decoded one after the other.
+pub struct Items<'a> {
+    sheet: &'a [u8],
+    count: usize,
+    next: usize,
+}
+
+impl<'a> Items<'a> {
+    /// Checks the frame (1) and all pairs in turn (2).
+    pub fn of(sheet: &'a [u8]) -> Result<Self, Refusal> {
+        let count = frame(sheet).ok_or(Refusal::new(number::FRAME, 0))?;
+        let mut free = 2 + 4 * count;
+        for item in 0..count {
+            let (offset, length) = pair(sheet, item);
+            if offset < free || offset + length > sheet.len() {
+                return Err(Refusal::new(number::PAIR, item));
+            }
+            free = offset + length;
+        }
+        Ok(Self {
+            sheet,
+            count,
+            next: 0,
+        })
+    }
+}
+
+/// The length is the count of items that are still to come.
+impl ExactSizeIterator for Items<'_> {}
+
+impl Iterator for Items<'_> {
+    type Item = Result<Item, Refusal>;
+
+    fn next(&mut self) -> Option<Self::Item> {
+        let index = self.next;
+        if index == self.count {
+            return None;
+        }
+        self.next += 1;
+        let (offset, length) = pair(self.sheet, index);
+        let bytes = &self.sheet[offset..offset + length];
+        Some(decode(bytes, index == 0).map_err(|number| Refusal::new(number, index)))
+    }
+
+    fn size_hint(&self) -> (usize, Option<usize>) {
+        let left = self.count - self.next;
+        (left, Some(left))
+    }
+}
+
+/// The count of items, where the length, the count and the room for the pairs are right.
+fn frame(sheet: &[u8]) -> Option<usize> {
+    if sheet.len() > MAX_SHEET {
+        return None;
+    }
+    let (head, pairs) = sheet.split_first_chunk()?;
+    let count = usize::from(u16::from_le_bytes(*head));
+    ((1..=MAX_ITEMS).contains(&count) && pairs.len() >= 4 * count).then_some(count)
+}
+
+/// Offset and length of an item. The pairs are known to fit.
+fn pair(sheet: &[u8], item: usize) -> (usize, usize) {
+    let mut fields = Fields(&sheet[2 + 4 * item..]);
+    (usize::from(fields.u16()), usize::from(fields.u16()))
+}
+
+/// An item's bytes taken apart, or the number of the first rule that they break.
+fn decode(bytes: &[u8], is_first: bool) -> Result<Item, u8> {
+    let (&kind, rest) = bytes.split_first().ok_or(number::LENGTH)?;
+    if length_of(kind, rest)? != bytes.len() {
+        return Err(number::LENGTH);
+    }
+    if (kind == 1) != is_first {
+        return Err(number::SITE_PLACE);
+    }
+    let fields = Fields(rest);
+    match kind {
+        1 => site(fields).map(Item::Site),
+        2 => monopitch(fields).map(Item::Roof),
+        3 => pitched(fields).map(Item::Roof),
+        4 => multi_span(fields).map(Item::Roof),
+        5 => cylindrical(fields).map(Item::Roof),
+        6 => lower(fields).map(Item::Roof),
+        _ => projection(fields).map(Item::Roof),
+    }
+}
+
+/// The length that an item of this kind has. A multi-span roof says so in its count byte.
+fn length_of(kind: u8, rest: &[u8]) -> Result<usize, u8> {
+    Ok(match kind {
+        1 => 14,
+        2 => 8,
+        3 => 15,
+        4 => 2 + 12 * usize::from(*rest.first().ok_or(number::LENGTH)?),
+        5 => 9,
+        6 => 20,
+        7 => 13,
+        _ => return Err(number::KIND),
+    })
+}
+
+/// Little-endian numbers read off the front of an item. The item's length is checked before.
+struct Fields<'a>(&'a [u8]);
+
+impl Fields<'_> {
+    fn take<const N: usize>(&mut self) -> [u8; N] {
+        let (head, rest) = self.0.split_first_chunk().expect("the length is checked");
+        self.0 = rest;
+        *head
+    }
+
+    fn u8(&mut self) -> u8 {
+        self.take::<1>()[0]
+    }
+
+    fn u16(&mut self) -> u16 {
+        u16::from_le_bytes(self.take())
+    }
+
+    fn u32(&mut self) -> u32 {
+        u32::from_le_bytes(self.take())
+    }
+
+    fn pitch(&mut self) -> Result<u16, u8> {
+        within(self.u16(), PITCHES, number::ROOF_FIELD)
+    }
+
+    fn width(&mut self) -> Result<u32, u8> {
+        within(self.u32(), WIDTHS, number::ROOF_FIELD)
+    }
+
+    fn step(&mut self) -> Result<u32, u8> {
+        within(self.u32(), STEPS, number::ROOF_FIELD)
+    }
+
+    fn guard(&mut self) -> Result<bool, u8> {
+        Ok(within(self.u8(), 0..=1, number::ROOF_FIELD)? == 1)
+    }
+}
+
+fn within<T: PartialOrd>(value: T, range: RangeInclusive<T>, refusal: u8) -> Result<T, u8> {
+    if range.contains(&value) {
+        Ok(value)
+    } else {
+        Err(refusal)
+    }
+}
+
+/// The altitude comes last, as its rule (7) stands behind the others (6).
+fn site(mut fields: Fields) -> Result<Site, u8> {
+    Ok(Site {
+        ground_load: within(fields.u32(), 100..=25_000, number::SITE_FIELD)?,
+        exposure: within(fields.u16(), 80..=120, number::SITE_FIELD)?,
+        thermal: within(fields.u16(), 1..=100, number::SITE_FIELD)?,
+        exceptional: within(fields.u16(), 100..=300, number::SITE_FIELD)?,
+        has_exceptional_falls: within(fields.u8(), 0..=1, number::SITE_FIELD)? == 1,
+        altitude: within(fields.u16(), 0..=1_500, number::ALTITUDE)?,
+    })
+}
+
+fn monopitch(mut fields: Fields) -> Result<Roof, u8> {
+    Ok(Roof::Monopitch(Slope {
+        pitch: fields.pitch()?,
+        guard: fields.guard()?,
+        width: fields.width()?,
+    }))
+}
+
+fn pitched(mut fields: Fields) -> Result<Roof, u8> {
+    let pitches = [fields.pitch()?, fields.pitch()?];
+    let guards = [fields.guard()?, fields.guard()?];
+    let widths = [fields.width()?, fields.width()?];
+    Ok(Roof::Pitched([0, 1].map(|side| Slope {
+        pitch: pitches[side],
+        guard: guards[side],
+        width: widths[side],
+    })))
+}
+
+/// The fields of all spans come first (8), then the valleys (9).
+fn multi_span(mut fields: Fields) -> Result<Roof, u8> {
+    let spans = usize::from(within(fields.u8(), 2..=16, number::ROOF_FIELD)?);
+    let mut slopes = [Slope::default(); MAX_SLOPES];
+    for span in slopes[..2 * spans].chunks_exact_mut(2) {
+        span[0].pitch = fields.pitch()?;
+        span[1].pitch = fields.pitch()?;
+        span[0].width = fields.width()?;
+        span[1].width = fields.width()?;
+    }
+    let inner = &slopes[1..2 * spans - 1];
+    if inner.chunks_exact(2).any(sheds_into_valley) {
+        return Err(number::VALLEY);
+    }
+    let count = 2 * spans;
+    Ok(Roof::MultiSpan(MultiSpan { slopes, count }))
+}
+
+/// A valley between such slopes has no mean pitch in Table 5.2 (5.3.4).
+fn sheds_into_valley(valley: &[Slope]) -> bool {
+    let (left, right) = (valley[0].pitch, valley[1].pitch);
+    left.max(right) > SLIDING_PITCH || left.min(right) == SLIDING_PITCH
+}
+
+fn cylindrical(mut fields: Fields) -> Result<Roof, u8> {
+    let rise = within(fields.u32(), 1..=15_000, number::ROOF_FIELD)?;
+    let span = within(fields.u32(), 2..=30_000, number::ROOF_FIELD)?;
+    if 2 * rise > span {
+        return Err(number::RISE);
+    }
+    Ok(Roof::Cylindrical { rise, span })
+}
+
+fn lower(mut fields: Fields) -> Result<Roof, u8> {
+    Ok(Roof::Lower(LowerRoof {
+        upper_width: fields.width()?,
+        lower_width: fields.width()?,
+        step: fields.step()?,
+        upper_slope: Slope {
+            width: fields.width()?,
+            pitch: fields.pitch()?,
+            guard: fields.guard()?,
+        },
+    }))
+}
+
+fn projection(mut fields: Fields) -> Result<Roof, u8> {
+    Ok(Roof::Projection {
+        height: fields.step()?,
+        left: fields.width()?,
+        right: fields.width()?,
+    })
+}

@@ -1,0 +1,134 @@
+//! Counts of comparisons and answers, and the disagreements.
+
+use second::calls::{NONE, REFUSED};
+
+/// The six calls, in the order of the header.
+pub const CALLS: [&str; 6] = ["verdict", "make", "load", "overhang", "guard_force", "list"];
+/// Lengths of slices that every run goes through.
+pub const LENGTHS: usize = 141;
+/// Disagreements that are written out.
+const SHOWN: u64 = 5;
+
+#[derive(Clone, Copy)]
+pub enum Call {
+    Verdict,
+    Make,
+    Load,
+    Overhang,
+    GuardForce,
+    List,
+}
+
+pub struct Tally {
+    pub sheets: u64,
+    pub accepted_sheets: u64,
+    calls: [u64; 6],
+    answered: u64,
+    none: u64,
+    /// By number; 12 for an index counts here.
+    refused: [u64; 14],
+    /// 12 for a station.
+    past_roof: u64,
+    /// How often a slice of each length was lent, and how often it was enough.
+    lengths: [(u64, u64); LENGTHS],
+    disagreements: u64,
+}
+
+impl Tally {
+    pub fn new() -> Self {
+        Self {
+            sheets: 0,
+            accepted_sheets: 0,
+            calls: [0; 6],
+            answered: 0,
+            none: 0,
+            refused: [0; 14],
+            past_roof: 0,
+            lengths: [(0, 0); LENGTHS],
+            disagreements: 0,
+        }
+    }
+
+    pub fn call(&mut self, call: Call) {
+        self.calls[call as usize] += 1;
+    }
+
+    /// Counts an answer. `index_exists` tells the two ways of refusal 12 apart.
+    pub fn answer(&mut self, answer: u32, index_exists: bool) {
+        if answer == NONE {
+            self.none += 1;
+        } else if answer < REFUSED {
+            self.answered += 1;
+        } else if answer >> 8 & 0xFF == 12 && index_exists {
+            self.past_roof += 1;
+        } else {
+            let number = (answer >> 8 & 0xFF) as usize;
+            self.refused[number.min(13)] += 1;
+        }
+    }
+
+    pub fn length(&mut self, room: usize, answer: u32) {
+        if let Some(entry) = self.lengths.get_mut(room) {
+            entry.0 += 1;
+            entry.1 += u64::from(answer < REFUSED);
+        }
+    }
+
+    /// Counts a disagreement. The first few are printed at once, lest a crash hide them.
+    pub fn disagree(&mut self, sheet: &[u8], describe: impl FnOnce() -> String) {
+        self.disagreements += 1;
+        if self.disagreements <= SHOWN {
+            let bytes: String = sheet.iter().map(|byte| format!("{byte:02x}")).collect();
+            println!("DISAGREEMENT {}\n  sheet {bytes}", describe());
+        }
+    }
+
+    pub fn agrees(&self) -> bool {
+        self.disagreements == 0
+    }
+
+    pub fn comparisons(&self) -> u64 {
+        self.calls.iter().sum()
+    }
+
+    /// No disagreement, and every refusal and every slice length was met.
+    pub fn is_good(&self) -> bool {
+        self.agrees()
+            && self.refused[1..].iter().all(|&count| count > 0)
+            && self.past_roof > 0
+            && self.lengths.iter().all(|entry| entry.0 > 0)
+    }
+
+    pub fn print(&self) {
+        let refused = self.sheets - self.accepted_sheets;
+        let accepted = self.accepted_sheets;
+        println!(
+            "SHEETS {} accepted {accepted} refused {refused}",
+            self.sheets
+        );
+        println!("COMPARISONS {}", self.comparisons());
+        for (name, count) in CALLS.iter().zip(self.calls) {
+            println!("  {name} {count}");
+        }
+        println!("ANSWERS {} none {}", self.answered, self.none);
+        println!("REFUSALS");
+        for number in 1..=11 {
+            println!("  {number} {}", self.refused[number]);
+        }
+        println!("  12 index {}", self.refused[12]);
+        println!("  12 station {}", self.past_roof);
+        println!("  13 {}", self.refused[13]);
+        self.print_lengths();
+        println!("DISAGREEMENTS {}", self.disagreements);
+    }
+
+    fn print_lengths(&self) {
+        let rarest = self.lengths.iter().map(|entry| entry.0).min();
+        let enough = self.lengths.iter().filter(|entry| entry.1 > 0).count();
+        println!(
+            "SLICES of 0..{} numbers, each lent at least {} times, {enough} lengths were enough",
+            LENGTHS - 1,
+            rarest.unwrap_or(0)
+        );
+    }
+}

@@ -1,0 +1,27 @@
+use mathlib.Core.Path.{ap, sym, _∙_}
+use Rattle.reading.specs.Reading.{readingMeans}
+use Rattle.reading.specs.declared.Reading.{Reading}
+use Rattle.terminal.specs.Calls.{answerCode}
+use borrow.Author.Needs.{needs}
+use native.Mathlib.Omega.{arith}
+use Rattle.terminal.proofs.codes.load.Statement.{statement}
+use Rattle.terminal.proofs.codes.load.Tie as tie
+
+enum-known-answer : tie.Need-enum-known-answer
+enum-known-answer c = search needs
+
+enum-known-answer-2 : tie.Need-enum-known-answer-2
+enum-known-answer-2 c = search needs
+
+refusal-requires : tie.Need-refusal-requires
+refusal-requires c κs = search needs
+
+returns : tie.Need-returns
+returns c = search needs
+
+returns-2 : tie.Need-returns-2
+returns-2 c = c .refusal .ensures ∙ ap (λ (a : Reading). answerCode (c .before .before .before .before .args .item) (readingMeans a)) (sym (c .before .before .answer2 .given .1))
+
+pub load-spec : {M : Type 1} → statement M
+load-spec =
+    tie.close (tie.spec enum-known-answer enum-known-answer-2 refusal-requires returns returns-2)

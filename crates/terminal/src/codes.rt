@@ -1,0 +1,60 @@
+// Answers as numbers of 32 bits.
+ghost use mathlib.Core.Path.{_≡_};
+ghost use Prim.Native.Nat.{_≤_, min};
+ghost use Rattle.arrangement.specs.Arrangement.{madeMeans, madeCount};
+ghost use Rattle.local_forces.specs.Answers.{forceMeans};
+ghost use Rattle.reading.specs.Reading.{readingMeans};
+ghost use Rattle.sheet.specs.Sheet.{verdictMeans};
+ghost use Rattle.terminal.specs.Calls.{refusalCode, verdictCode, answerCode, forceCode};
+use arrangement::Made;
+use local_forces::LocalForce;
+use reading::Reading;
+
+// The answer where there is no such force.
+pub const NONE: u32 = 0xFFFF_FFFF;
+
+// The lesser of an index and 255.
+fn shown(item: usize) -> u32
+    ensures { λ r. ⌜ r ≡ min item 255 ⌝ }
+{
+    if item < 255 { item as u32 } else { 255 }
+}
+
+// A refusal with its number and the item that it names.
+pub fn refusal(number: u8, item: usize) -> u32
+    ensures { λ r. ⌜ r ≡ refusalCode number item ⌝ }
+{
+    0x8000_0000 + 256 * number as u32 + shown(item)
+}
+
+// A force, none, or the refusal of an item.
+pub fn force(answer: LocalForce, item: usize) -> u32
+    ensures { λ r. ⌜ r ≡ forceCode item (forceMeans answer) ⌝ }
+{
+    match answer {
+        LocalForce::Newtons(newtons) => newtons,
+        LocalForce::NoForce => NONE,
+        LocalForce::Refused(number) => refusal(number, item),
+    }
+}
+
+// A count of segments, or the refusal of an item.
+pub fn made(answer: Made, item: usize) -> u32
+    requires { ⌜ madeCount answer ≤ 32 ⌝ }
+    ensures { λ r. ⌜ r ≡ answerCode item (madeMeans answer) ⌝ }
+{
+    match answer {
+        Made::Segments(n) => n as u32,
+        Made::Refused(number) => refusal(number, item),
+    }
+}
+
+// A load, or the refusal of an item.
+pub fn load(answer: Reading, item: usize) -> u32
+    ensures { λ r. ⌜ r ≡ answerCode item (readingMeans answer) ⌝ }
+{
+    match answer {
+        Reading::Load(load) => load,
+        Reading::Refused(number) => refusal(number, item),
+    }
+}

@@ -1,0 +1,199 @@
+/* Asks the six calls about one sheet, prints every answer and checks what the header says of them.
+ *     c_example SHEET         all answers; the exit code is 1 where a check fails
+ *     c_example SHEET list    the listing alone
+ */
+#include <inttypes.h>
+#include <stdbool.h>
+#include <stdio.h>
+#include <string.h>
+
+#include "wuqodlisa.h"
+
+#define SLICE 128 /* 32 segments of four numbers, the most there are */
+#define MARK 0xA5 /* fills memory before it is lent */
+
+struct sheet {
+    uint8_t bytes[16385]; /* the longest sheet and one more, so that a longer file is refused */
+    size_t length;
+};
+
+struct refusal { uint32_t number, item; };
+
+static const uint8_t codes[] = {1, 2, 3, 11, 12, 13};
+static unsigned checks, failures;
+
+static void check(bool holds, const char *what, size_t item)
+{
+    checks++;
+    failures += !holds;
+    if (!holds)
+        fprintf(stderr, "item %zu: %s\n", item, what);
+}
+
+/* Takes a refusal apart. The number is 0 for a count, a load, a force and SNOW_NONE, which are none. */
+static struct refusal decode(uint32_t answer)
+{
+    if (answer == SNOW_NONE || answer < SNOW_REFUSED)
+        return (struct refusal){0, 0};
+    return (struct refusal){(answer - SNOW_REFUSED) / 256, (answer - SNOW_REFUSED) % 256};
+}
+
+static bool refused_with(uint32_t answer, uint32_t number, size_t item)
+{
+    struct refusal why = decode(answer);
+    return why.number == number && why.item == (item < 255 ? item : 255);
+}
+
+static void print_answer(uint32_t answer, const char *unit)
+{
+    struct refusal why = decode(answer);
+    if (answer == SNOW_NONE)
+        printf("none\n");
+    else if (why.number != 0)
+        printf("refused %" PRIu32 " item %" PRIu32 "\n", why.number, why.item);
+    else
+        printf("%" PRIu32 " %s\n", answer, unit);
+}
+
+static bool is_marked(const void *memory, size_t length)
+{
+    const uint8_t *bytes = memory;
+    while (length > 0 && bytes[length - 1] == MARK)
+        length--;
+    return length == 0;
+}
+
+/* Lends a marked slice. A refusal alters nothing of it, an answer only the segments at its front. */
+static uint32_t make(const struct sheet *sheet, size_t item, uint8_t code, uint32_t out[SLICE], size_t room)
+{
+    memset(out, MARK, SLICE * sizeof *out);
+    uint32_t answer = snow_make(sheet->bytes, sheet->length, item, code, out, room);
+    size_t written = decode(answer).number != 0 ? 0 : 4 * (size_t)answer;
+    bool kept = written <= SLICE && is_marked(out + written, (SLICE - written) * sizeof *out);
+    check(kept, "snow_make altered more than its segments", item);
+    return answer;
+}
+
+static uint32_t load(const struct sheet *sheet, size_t item, uint8_t code, uint32_t station)
+{
+    uint32_t answer = snow_load(sheet->bytes, sheet->length, item, code, station);
+    printf("LOAD %zu %u at %" PRIu32 ": ", item, code, station);
+    print_answer(answer, "N/m2");
+    return answer;
+}
+
+/* A segment and the loads on it. A position shared with a neighbour reads the greater load. */
+static void ask_segment(const struct sheet *sheet, size_t item, uint8_t code, const uint32_t segment[4])
+{
+    uint32_t start = segment[0], end = segment[1];
+    printf("SEGMENT %zu %u: %" PRIu32 " %" PRIu32 " %" PRIu32 " %" PRIu32 "\n", item, code, start, end,
+           segment[2], segment[3]);
+    uint32_t at_start = load(sheet, item, code, start);
+    load(sheet, item, code, start + (end - start) / 2);
+    uint32_t at_end = load(sheet, item, code, end);
+    check(at_start < SNOW_REFUSED && at_start >= segment[2], "load below the segment's first", item);
+    check(at_end < SNOW_REFUSED && at_end >= segment[3], "load below the segment's second", item);
+}
+
+/* The segments of one arrangement; their count. */
+static size_t ask_arrangement(const struct sheet *sheet, size_t item, uint8_t code)
+{
+    uint32_t out[SLICE];
+    uint32_t count = make(sheet, item, code, out, SLICE);
+    printf("MAKE %zu %u: ", item, code);
+    print_answer(count, "segments");
+    if (decode(count).number != 0) {
+        check(refused_with(count, 13, item), "refused, and not with 13", item);
+        check(load(sheet, item, code, 0) == count, "a load where no arrangement is made", item);
+        return 0;
+    }
+    for (size_t i = 0; i < count; i++)
+        ask_segment(sheet, item, code, out + 4 * i);
+    uint32_t past = out[4 * count - 3] + 1;
+    check(refused_with(load(sheet, item, code, past), 12, item), "a load past the roof's end", item);
+    check(refused_with(make(sheet, item, code, out, 4 * count - 1), 11, item), "a slice too short", item);
+    return count;
+}
+
+/* The forces at eave and guard of one slope; how many there are. */
+static size_t ask_slope(const struct sheet *sheet, size_t item, uint8_t slope)
+{
+    uint32_t overhang = snow_overhang(sheet->bytes, sheet->length, item, slope);
+    uint32_t guard = snow_guard_force(sheet->bytes, sheet->length, item, slope);
+    printf("OVERHANG %zu slope %u: ", item, slope);
+    print_answer(overhang, "N/m");
+    printf("GUARD %zu slope %u: ", item, slope);
+    print_answer(guard, "N/m");
+    return (size_t)(overhang < SNOW_REFUSED) + (guard < SNOW_REFUSED);
+}
+
+/* One roof; the count of its lines in the listing. */
+static size_t ask_roof(const struct sheet *sheet, size_t item)
+{
+    uint32_t out[SLICE];
+    size_t lines = 0;
+    for (size_t i = 0; i < sizeof codes; i++)
+        lines += ask_arrangement(sheet, item, codes[i]);
+    check(refused_with(make(sheet, item, 99, out, SLICE), 13, item), "code 99 is made", item);
+    return lines + ask_slope(sheet, item, 1) + ask_slope(sheet, item, 2);
+}
+
+/* Every call that asks for this item gives the same refusal. */
+static void check_refused(const struct sheet *sheet, size_t item, uint32_t refusal)
+{
+    uint32_t out[SLICE];
+    uint32_t reading = snow_load(sheet->bytes, sheet->length, item, 1, 0);
+    uint32_t overhang = snow_overhang(sheet->bytes, sheet->length, item, 1);
+    uint32_t guard = snow_guard_force(sheet->bytes, sheet->length, item, 1);
+    check(make(sheet, item, 1, out, SLICE) == refusal, "snow_make refuses otherwise", item);
+    check(reading == refusal, "snow_load refuses otherwise", item);
+    check(overhang == refusal && guard == refusal, "a force is refused otherwise", item);
+}
+
+/* Prints the listing; the count of its lines. One byte of room too little alters nothing. */
+static size_t list(const struct sheet *sheet)
+{
+    static uint8_t text[SNOW_LIST_ROOM];
+    memset(text, MARK, sizeof text);
+    size_t lines = 0, bytes = snow_list(sheet->bytes, sheet->length, text, sizeof text - 1);
+    check(bytes == 0 && is_marked(text, sizeof text), "a listing in too little room", 0);
+    bytes = snow_list(sheet->bytes, sheet->length, text, sizeof text);
+    for (size_t i = 0; i < bytes; i++)
+        lines += text[i] == '\n';
+    fwrite(text, 1, bytes, stdout);
+    return lines;
+}
+
+static void ask(const struct sheet *sheet)
+{
+    size_t lines = 1; /* the header, or the line REFUSED */
+    uint32_t count = snow_verdict(sheet->bytes, sheet->length);
+    printf("VERDICT: ");
+    print_answer(count, "items");
+    if (decode(count).number != 0) {
+        check_refused(sheet, 1, count);
+    } else {
+        for (size_t item = 1; item < count; item++)
+            lines += ask_roof(sheet, item);
+        check_refused(sheet, count, SNOW_REFUSED + 256 * 12 + count);
+    }
+    check(list(sheet) == lines, "the listing has other lines", 0);
+    printf("CHECKS: %u\n", checks);
+}
+
+int main(int count, char **arguments)
+{
+    static struct sheet sheet;
+    FILE *file = count < 2 ? NULL : fopen(arguments[1], "rb");
+    if (file == NULL) {
+        fprintf(stderr, "usage: c_example SHEET [list]\n");
+        return 2;
+    }
+    sheet.length = fread(sheet.bytes, 1, sizeof sheet.bytes, file);
+    fclose(file);
+    if (count > 2 && strcmp(arguments[2], "list") == 0)
+        list(&sheet);
+    else
+        ask(&sheet);
+    return failures != 0;
+}

@@ -1,0 +1,196 @@
+//! Asks the six calls about one sheet, prints every answer and checks what the header says of them.
+//!
+//!     terminal_example SHEET         all answers; the exit code is 1 where a check fails
+//!     terminal_example SHEET list    the listing alone
+
+mod snow;
+
+use std::env;
+use std::fs;
+use std::io::{self, Write};
+use std::process::ExitCode;
+
+use snow::Answer;
+
+/// 32 segments of four numbers, the most there are.
+const SLICE: usize = 128;
+/// Fills memory before it is lent.
+const MARK_BYTE: u8 = 0xA5;
+const MARK: u32 = u32::from_ne_bytes([MARK_BYTE; 4]);
+const CODES: [u8; 6] = [1, 2, 3, 11, 12, 13];
+
+/// A sheet, and the checks on what the calls answer about it.
+struct Caller {
+    sheet: Vec<u8>,
+    checks: u32,
+    failures: u32,
+}
+
+impl Caller {
+    fn check(&mut self, holds: bool, what: &str, item: usize) {
+        self.checks += 1;
+        if !holds {
+            self.failures += 1;
+            eprintln!("item {item}: {what}");
+        }
+    }
+
+    /// Lends a marked slice. A refusal alters nothing of it, an answer only the segments at its front.
+    fn make(&mut self, item: usize, code: u8, room: usize) -> (Answer, [u32; SLICE]) {
+        let mut out = [MARK; SLICE];
+        let answer = snow::make(&self.sheet, item, code, &mut out[..room]);
+        let written = 4 * answer.value().unwrap_or(0) as usize;
+        let kept = out.iter().skip(written).all(|&number| number == MARK);
+        self.check(kept, "snow_make altered more than its segments", item);
+        (answer, out)
+    }
+
+    fn load(&self, item: usize, code: u8, station: u32) -> Answer {
+        let answer = snow::load(&self.sheet, item, code, station);
+        println!(
+            "LOAD {item} {code} at {station}: {}",
+            answer.with_unit("N/m2")
+        );
+        answer
+    }
+
+    /// A segment and the loads on it. A position shared with a neighbour reads the greater load.
+    fn ask_segment(&mut self, item: usize, code: u8, segment: [u32; 4]) {
+        let [start, end, first, second] = segment;
+        println!("SEGMENT {item} {code}: {start} {end} {first} {second}");
+        let at_start = self.load(item, code, start).value();
+        self.load(item, code, start + (end - start) / 2);
+        let at_end = self.load(item, code, end).value();
+        self.check(
+            at_start >= Some(first),
+            "load below the segment's first",
+            item,
+        );
+        self.check(
+            at_end >= Some(second),
+            "load below the segment's second",
+            item,
+        );
+    }
+
+    /// The segments of one arrangement; their count.
+    fn ask_arrangement(&mut self, item: usize, code: u8) -> usize {
+        let (answer, out) = self.make(item, code, SLICE);
+        println!("MAKE {item} {code}: {}", answer.with_unit("segments"));
+        let Some(count) = answer.value() else {
+            let is_13 = answer == Answer::refused(13, item);
+            self.check(is_13, "refused, and not with 13", item);
+            let same = self.load(item, code, 0) == answer;
+            self.check(same, "a load where no arrangement is made", item);
+            return 0;
+        };
+        let numbers = 4 * count as usize;
+        for segment in out[..numbers].chunks_exact(4) {
+            self.ask_segment(item, code, [segment[0], segment[1], segment[2], segment[3]]);
+        }
+        let past = self.load(item, code, out[numbers - 3] + 1);
+        self.check(
+            past == Answer::refused(12, item),
+            "a load past the roof's end",
+            item,
+        );
+        let (short, _) = self.make(item, code, numbers - 1);
+        self.check(
+            short == Answer::refused(11, item),
+            "a slice too short",
+            item,
+        );
+        count as usize
+    }
+
+    /// The forces at eave and guard of one slope; how many there are.
+    fn ask_slope(&self, item: usize, slope: u8) -> usize {
+        let overhang = snow::overhang(&self.sheet, item, slope);
+        let guard = snow::guard_force(&self.sheet, item, slope);
+        println!(
+            "OVERHANG {item} slope {slope}: {}",
+            overhang.with_unit("N/m")
+        );
+        println!("GUARD {item} slope {slope}: {}", guard.with_unit("N/m"));
+        [overhang, guard]
+            .iter()
+            .filter(|force| force.value().is_some())
+            .count()
+    }
+
+    /// One roof; the count of its lines in the listing.
+    fn ask_roof(&mut self, item: usize) -> usize {
+        let segments: usize = CODES
+            .iter()
+            .map(|&code| self.ask_arrangement(item, code))
+            .sum();
+        let (unknown, _) = self.make(item, 99, SLICE);
+        self.check(
+            unknown == Answer::refused(13, item),
+            "code 99 is made",
+            item,
+        );
+        segments + self.ask_slope(item, 1) + self.ask_slope(item, 2)
+    }
+
+    /// Every call that asks for this item gives the same refusal.
+    fn check_refused(&mut self, item: usize, refusal: Answer) {
+        let reading = snow::load(&self.sheet, item, 1, 0);
+        let overhang = snow::overhang(&self.sheet, item, 1);
+        let guard = snow::guard_force(&self.sheet, item, 1);
+        let (made, _) = self.make(item, 1, SLICE);
+        self.check(made == refusal, "snow_make refuses otherwise", item);
+        self.check(reading == refusal, "snow_load refuses otherwise", item);
+        let same = overhang == refusal && guard == refusal;
+        self.check(same, "a force is refused otherwise", item);
+    }
+
+    /// Prints the listing; the count of its lines. One byte of room too little alters nothing.
+    fn list(&mut self) -> io::Result<usize> {
+        let mut text = vec![MARK_BYTE; snow::LIST_ROOM];
+        let bytes = snow::list(&self.sheet, &mut text[..snow::LIST_ROOM - 1]);
+        let kept = text.iter().all(|&byte| byte == MARK_BYTE);
+        self.check(bytes == 0 && kept, "a listing in too little room", 0);
+        let bytes = snow::list(&self.sheet, &mut text);
+        io::stdout().write_all(&text[..bytes])?;
+        Ok(text[..bytes].iter().filter(|&&byte| byte == b'\n').count())
+    }
+
+    fn ask(&mut self) -> io::Result<()> {
+        let mut lines = 1; // the header, or the line REFUSED
+        let verdict = snow::verdict(&self.sheet);
+        println!("VERDICT: {}", verdict.with_unit("items"));
+        if let Some(count) = verdict.value() {
+            let count = count as usize;
+            for item in 1..count {
+                lines += self.ask_roof(item);
+            }
+            self.check_refused(count, Answer::refused(12, count));
+        } else {
+            self.check_refused(1, verdict);
+        }
+        let listed = self.list()?;
+        self.check(listed == lines, "the listing has other lines", 0);
+        println!("CHECKS: {}", self.checks);
+        Ok(())
+    }
+}
+
+fn main() -> io::Result<ExitCode> {
+    let arguments: Vec<String> = env::args().collect();
+    let Some(path) = arguments.get(1) else {
+        eprintln!("usage: terminal_example SHEET [list]");
+        return Ok(ExitCode::from(2));
+    };
+    let mut caller = Caller {
+        sheet: fs::read(path)?,
+        checks: 0,
+        failures: 0,
+    };
+    if arguments.get(2).is_some_and(|part| part == "list") {
+        caller.list()?;
+    } else {
+        caller.ask()?;
+    }
+    Ok(ExitCode::from(u8::from(caller.failures > 0)))
+}

@@ -1,0 +1,119 @@
+//! The six calls as safe functions on slices.
+
+/// A number of bytes that holds the listing of any sheet.
+pub const LIST_ROOM: usize = 275_557;
+
+const REFUSED: u32 = 0x8000_0000;
+const NONE: u32 = u32::MAX;
+
+/// What a call answers.
+#[derive(Clone, Copy, Debug, PartialEq, Eq)]
+pub enum Answer {
+    /// A count, a load in N/m² or a force in N/m.
+    Value(u32),
+    /// There is no such force.
+    None,
+    /// Why there is no answer, and at which item; an item above 255 shows as 255.
+    Refused { number: u32, item: u32 },
+}
+
+impl Answer {
+    pub fn refused(number: u32, item: usize) -> Self {
+        let item = item.min(255) as u32;
+        Self::Refused { number, item }
+    }
+
+    pub fn value(self) -> Option<u32> {
+        match self {
+            Self::Value(value) => Some(value),
+            _ => None,
+        }
+    }
+
+    /// The text of the answer, a value with its unit.
+    pub fn with_unit(self, unit: &str) -> String {
+        match self {
+            Self::Value(value) => format!("{value} {unit}"),
+            Self::None => "none".to_string(),
+            Self::Refused { number, item } => format!("refused {number} item {item}"),
+        }
+    }
+}
+
+/// The number `NONE` is tested first: it lies above `REFUSED` and is no refusal.
+impl From<u32> for Answer {
+    fn from(answer: u32) -> Self {
+        match answer {
+            NONE => Self::None,
+            0..REFUSED => Self::Value(answer),
+            _ => Self::Refused {
+                number: (answer - REFUSED) / 256,
+                item: (answer - REFUSED) % 256,
+            },
+        }
+    }
+}
+
+/// The calls as the header has them. Each owes pointers that are not null and aligned, with the
+/// lengths given, and memory lent for writing that overlaps nothing else. Slices promise all of it.
+mod ffi {
+    extern "C" {
+        pub fn snow_verdict(sheet: *const u8, length: usize) -> u32;
+        pub fn snow_make(
+            sheet: *const u8,
+            length: usize,
+            item: usize,
+            code: u8,
+            out: *mut u32,
+            room: usize,
+        ) -> u32;
+        pub fn snow_load(
+            sheet: *const u8,
+            length: usize,
+            item: usize,
+            code: u8,
+            station: u32,
+        ) -> u32;
+        pub fn snow_overhang(sheet: *const u8, length: usize, item: usize, slope: u8) -> u32;
+        pub fn snow_guard_force(sheet: *const u8, length: usize, item: usize, slope: u8) -> u32;
+        pub fn snow_list(sheet: *const u8, length: usize, out: *mut u8, room: usize) -> usize;
+    }
+}
+
+/// The count of a sheet's items.
+pub fn verdict(sheet: &[u8]) -> Answer {
+    // SAFETY: a slice has the length given with it.
+    unsafe { ffi::snow_verdict(sheet.as_ptr(), sheet.len()) }.into()
+}
+
+/// Writes the segments of an arrangement at the front of `out`, four numbers each; their count.
+pub fn make(sheet: &[u8], item: usize, code: u8, out: &mut [u32]) -> Answer {
+    let (room, out) = (out.len(), out.as_mut_ptr());
+    // SAFETY: both slices have the lengths given, and the lent one is borrowed alone.
+    unsafe { ffi::snow_make(sheet.as_ptr(), sheet.len(), item, code, out, room) }.into()
+}
+
+/// The load at a station, in N/m².
+pub fn load(sheet: &[u8], item: usize, code: u8, station: u32) -> Answer {
+    // SAFETY: a slice has the length given with it.
+    unsafe { ffi::snow_load(sheet.as_ptr(), sheet.len(), item, code, station) }.into()
+}
+
+/// The overhang at the eave of a slope, in N/m.
+pub fn overhang(sheet: &[u8], item: usize, slope: u8) -> Answer {
+    // SAFETY: a slice has the length given with it.
+    unsafe { ffi::snow_overhang(sheet.as_ptr(), sheet.len(), item, slope) }.into()
+}
+
+/// The force at the guard of a slope, in N/m.
+pub fn guard_force(sheet: &[u8], item: usize, slope: u8) -> Answer {
+    // SAFETY: a slice has the length given with it.
+    unsafe { ffi::snow_guard_force(sheet.as_ptr(), sheet.len(), item, slope) }.into()
+}
+
+/// Writes the listing at the front of `out`; its bytes, or 0 where `out` is shorter than `LIST_ROOM`.
+pub fn list(sheet: &[u8], out: &mut [u8]) -> usize {
+    let (room, out) = (out.len(), out.as_mut_ptr());
+    // SAFETY: both slices have the lengths given, and the lent one is borrowed alone.
+    unsafe { ffi::snow_list(sheet.as_ptr(), sheet.len(), out, room) }
+}

@@ -1,0 +1,119 @@
+#!/usr/bin/env python3
+"""Writes the sample sheets beside this file. Listings are not computed here.
+
+Pitches are given in degrees, lengths in mm, the ground load in N/m2,
+Ce, Ct and Cesl in hundredths, the altitude in m.
+"""
+
+import pathlib
+import struct
+
+
+def tenths(pitch):
+    return round(10 * pitch)
+
+
+def site(ground, ce=100, ct=100, cesl=200, situation=0, altitude=300):
+    return struct.pack("<BIHHHBH", 1, ground, ce, ct, cesl, situation, altitude)
+
+
+def monopitch(pitch, width, guard=0):
+    return struct.pack("<BHBI", 2, tenths(pitch), guard, width)
+
+
+def pitched(pitches, widths, guards=(0, 0)):
+    return struct.pack("<BHHBBII", 3, *map(tenths, pitches), *guards, *widths)
+
+
+def multi_span(*spans):
+    """Each span: pitch left, pitch right, width left, width right."""
+    item = struct.pack("<BB", 4, len(spans))
+    for left, right, width_left, width_right in spans:
+        item += struct.pack("<HHII", tenths(left), tenths(right), width_left, width_right)
+    return item
+
+
+def cylindrical(rise, span):
+    return struct.pack("<BII", 5, rise, span)
+
+
+def lower(upper_width, lower_width, step, slope_width, pitch, guard=0):
+    return struct.pack("<BIIIIHB", 6, upper_width, lower_width, step, slope_width, tenths(pitch), guard)
+
+
+def projection(height, left, right):
+    return struct.pack("<BIII", 7, height, left, right)
+
+
+def sheet(*items, gap=0):
+    """The count, the pairs, the items; gap bytes stand before each item."""
+    pairs, body = b"", b""
+    start = 2 + 4 * len(items)
+    for item in items:
+        body += gap * b"\xee"
+        pairs += struct.pack("<HH", start + len(body), len(item))
+        body += item
+    return struct.pack("<H", len(items)) + pairs + body
+
+
+HALL = pitched((20.0, 40.0), (9_000, 6_000))
+SAW = (60.0, 25.0, 2_400, 7_600)
+
+SHEETS = {
+    "scope": sheet(site(1_000, altitude=500), monopitch(30.0, 5_000, guard=1)),
+    "site_alone": sheet(site(1_500)),
+    # Kind 2
+    "mono_flat": sheet(site(850, ce=80, altitude=240), monopitch(5.0, 6_400)),
+    "mono_steep": sheet(site(1_650, situation=1, altitude=610), monopitch(42.5, 5_200)),
+    "mono_guard": sheet(site(1_650, situation=1, altitude=610), monopitch(42.5, 5_200, guard=1)),
+    "mono_bare": sheet(site(2_600, altitude=1_040), monopitch(60.0, 3_800)),
+    "eave_800": sheet(site(2_400, altitude=800), monopitch(25.0, 7_000)),
+    "eave_801": sheet(site(2_400, altitude=801), monopitch(25.0, 7_000)),
+    # Kind 3
+    "pitched_hall": sheet(site(1_500), HALL),
+    "pitched_falls": sheet(site(950, cesl=220, situation=1, altitude=60), pitched((15.0, 15.0), (8_500, 8_500))),
+    "pitched_guards": sheet(site(2_800, altitude=1_180), pitched((35.0, 50.0), (7_200, 4_800), (1, 1))),
+    "pitched_heavy": sheet(site(3_500, ce=120, altitude=1_350), pitched((18.0, 38.0), (6_000, 5_000), (0, 1))),
+    # Kind 4
+    "spans_two": sheet(site(1_000), multi_span((25.0, 20.0, 8_000, 8_000), (10.0, 25.0, 9_000, 8_000))),
+    "spans_saw": sheet(site(1_250, ce=120, altitude=450), multi_span(SAW, SAW, SAW, SAW)),
+    "spans_edge": sheet(site(1_000), multi_span((45.0, 60.0, 4_000, 3_000), (59.9, 45.0, 3_000, 4_000))),
+    "spans_sixteen": sheet(site(1_100, situation=1), multi_span(*[(22.0, 28.0, 6_000, 5_000)] * 16)),
+    # Kind 5
+    "arch_flat": sheet(site(1_000), cylindrical(3_000, 20_000)),
+    "arch_steep": sheet(site(1_800, situation=1, altitude=520), cylindrical(5_000, 12_000)),
+    "arch_half": sheet(site(1_350), cylindrical(9_000, 18_000)),
+    "arch_edge": sheet(site(1_000), cylindrical(1_000, 3_464)),
+    # Kind 6
+    "lower_drift": sheet(site(1_000), lower(10_000, 20_000, 3_000, 6_000, 10.0)),
+    "lower_slide": sheet(site(1_000), lower(10_000, 20_000, 3_000, 6_000, 20.0)),
+    "lower_fifteen": sheet(site(1_000), lower(10_000, 20_000, 3_000, 6_000, 15.0)),
+    "lower_cut": sheet(site(1_400), lower(16_000, 4_200, 3_400, 8_000, 8.0)),
+    "lower_gamma": sheet(site(2_900, altitude=740), lower(18_000, 12_000, 1_800, 9_000, 12.0)),
+    "lower_low": sheet(site(1_000), lower(12_000, 9_000, 300, 6_000, 5.0)),
+    "lower_falls": sheet(site(1_700, situation=1), lower(22_000, 26_000, 9_000, 11_000, 45.0, guard=1)),
+    # Kind 7
+    "projection": sheet(site(1_300), projection(1_200, 8_000, 12_000)),
+    "projection_cut": sheet(site(900), projection(1_500, 2_500, 9_000)),
+    "projection_falls": sheet(site(2_200, situation=1), projection(3_100, 10_000, 7_500)),
+    # Several roofs, with gaps
+    "mixed": sheet(
+        site(2_350, ce=90, ct=95, cesl=180, situation=1, altitude=1_040),
+        pitched((32.0, 24.0), (7_400, 8_100), (1, 0)),
+        lower(15_500, 5_200, 3_600, 8_100, 24.0),
+        multi_span((20.0, 35.0, 5_000, 4_000), (35.0, 20.0, 4_000, 5_000), (20.0, 35.0, 5_000, 4_000)),
+        monopitch(33.3, 4_600, guard=1),
+        cylindrical(2_750, 14_000),
+        projection(1_600, 3_000, 16_000),
+        gap=5,
+    ),
+    # Refused
+    "refused_pairs": sheet(site(1_500), HALL)[:9],
+    "refused_cut": sheet(site(1_500), HALL)[:-3],
+    "refused_altitude": sheet(site(3_400, altitude=1_501), HALL),
+    "refused_valley": sheet(site(1_500), HALL, multi_span((45.0, 60.0, 4_000, 3_000), (60.0, 45.0, 3_000, 4_000))),
+    "refused_rise": sheet(site(1_500), cylindrical(6_001, 12_000)),
+}
+
+for name, content in SHEETS.items():
+    pathlib.Path(__file__).with_name(name + ".sheet").write_bytes(content)
