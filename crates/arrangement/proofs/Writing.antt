@@ -32,7 +32,7 @@ more done old out four i len e =
     rw (e, e₁, e₃, e₄)
 
 module _ (S : ℕ → Stretch) where
-  segments-length : (n : ℕ) → length (segments S n) ≡ 4 * n
+  pub segments-length : (n : ℕ) → length (segments S n) ≡ 4 * n
   unfolding segments segment
   segments-length zero = refl
   segments-length (suc n) = simp length-append (omega (arith, segments-length n))

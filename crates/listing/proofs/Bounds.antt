@@ -1,8 +1,8 @@
 -- How long a listing can be: the room that is asked for holds the listing of any sheet.
 use Prim.Native.Nat.{ℕ, zero, suc, _+_, _*_, _≤_, _<_}
 use mathlib.Core.Bool.{Bool, true, false, cond}
-use mathlib.Core.List.{List, [], _∷_, _++_}
-use mathlib.Core.Path.{_≡_, refl, ap, sym, _∙_}
+use mathlib.Core.List.{List, [], _++_}
+use mathlib.Core.Path.{_≡_, refl, ap, _∙_}
 use borrow.Author.Tests.{lt-ltb, le-ltb}
 use lib.ListN.{length, drop, length-append}
 use native.Mathlib.Nat.{zero-add}
@@ -12,16 +12,16 @@ use Rattle.figures.specs.SiteRules.{siteRefusal}
 use Rattle.figures.specs.declared.site.Site.{Site}
 use Rattle.figures.specs.declared.roof.Roof.{Roof}
 use Rattle.listing.proofs.Codes.{third-few, rows-few}
-use Rattle.listing.proofs.Lines.{segments-short, four-short, wrote-as}
+use Rattle.listing.proofs.Lines.{segments-short, four-short}
 use Rattle.listing.proofs.Sheets.{first-none, few-items, some-items, later-sound, site-sound}
-use Rattle.listing.specs.Listing.{header, segmentRows, codeRows, caseRows, arrangementRows, forceRow, slopeRows, forceRows, itemRows, itemsRows, rowsUnder, refusedRow, listingBy, listing, listRoom, listed, bytesAfter, rowCount}
+use Rattle.listing.specs.Listing.{header, segmentRows, codeRows, caseRows, arrangementRows, forceRow, slopeRows, forceRows, itemRows, itemsRows, rowsUnder, listingBy, listing, listRoom, listed, bytesAfter, rowCount}
 use Rattle.sheet.specs.Items.{Content, site, roof, malformed, content, ruleNumber}
 use Rattle.sheet.specs.Sheet.{Answer, accepted, refused, terminals, part, sheetVerdict}
 use Rattle.standard.specs.Arrangements.{baseCode, exists, count, stretch}
 use Rattle.standard.specs.Coefficients.{recommendedFigures}
 use Rattle.standard.specs.Forces as forces
-use Rattle.text.proofs.Writing.{short, in-place, room}
-use Rattle.text.specs.Text.{Wrote, decimal, row}
+use Rattle.text.proofs.Writing.{short, in-place, room, wrote-as}
+use Rattle.text.specs.Text.{Wrote}
 
 module _ (s : Site) (r : Roof) (item : ℕ) where
   code-by :
@@ -128,8 +128,7 @@ module _ (sheet old : List ℕ) where
   all-written v new r e h w =
       let x : Wrote old 0 (listing sheet) new r = wrote-as w (listing-is v e) in
       let t = le-ltb (length old) listRoom h in
-      let k : r ≡ length (listing sheet) = x .end ∙ zero-add (length (listing sheet)) in
-      (
+      let k : r ≡ length (listing sheet) = x .end ∙ zero-add (length (listing sheet)) in (
         rw t k,
         (
           rw t (in-place x (omega (arith, listing-short sheet)) ∙ ap (λ (n : ℕ). listing sheet ++ drop n old) k),

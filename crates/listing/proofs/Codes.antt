@@ -4,8 +4,8 @@ use mathlib.Core.Bool.{Bool, true, false, cond, _&&_}
 use mathlib.Core.List.{List, [], _++_}
 use mathlib.Core.Path.{_≡_, refl, ap, sym, _∙_}
 use borrow.Author.Tests.{le-leb}
-use lib.Dec.{leb, eqb}
-use lib.ListN.{length, drop}
+use lib.Dec.{eqb}
+use lib.ListN.{drop}
 use native.Mathlib.Omega.{arith}
 use Rattle.figures.proofs.Laws.{both}
 use Rattle.figures.specs.RoofRules.{roofRefusal}
@@ -15,7 +15,7 @@ use Rattle.figures.specs.declared.roof.Roof.{Roof}
 use Rattle.figures.specs.declared.roof.Shape.{Shape}
 use Rattle.figures.specs.declared.roof.Shape.the-variants.{Monopitch, Pitched, MultiSpan, Cylindrical, Abutting, Projection}
 use Rattle.listing.proofs.Lines.{slice-rows}
-use Rattle.listing.specs.Listing.{segmentRows, codeRows, sliceRows, rowCount}
+use Rattle.listing.specs.Listing.{codeRows, sliceRows, rowCount}
 use Rattle.standard.proofs.Demand.{well-formed, recommended-in}
 use Rattle.standard.specs.Answers.{Answer, value, refused, figuresRefusal, afterRules, makeAnswer}
 use Rattle.standard.specs.Arrangements.{persistent, exceptional, accidental, baseCode, existsIn, exists, countIn, count, stretch}

@@ -1,15 +1,15 @@
 -- Rows: how long they are, and that those of a lent slice are those of the segments at its front.
 use Prim.Native.Nat.{ℕ, zero, suc, _+_, _*_, _≤_, _<_}
-use mathlib.Core.Bool.{Bool, true, false, cond}
 use mathlib.Core.List.{List, [], _∷_, _++_, append-assoc}
 use mathlib.Core.Logic.{⊎-elim}
-use mathlib.Core.Path.{_≡_, refl, ap, sym, subst, _∙_}
+use mathlib.Core.Path.{_≡_, refl, ap, sym, _∙_}
 use lib.ListN.{length, getD, length-append, List·getD-append}
 use native.Mathlib.Nat.{eq-or-lt-of-le}
 use native.Mathlib.Omega.{arith}
+use Rattle.arrangement.proofs.Writing.{segments-length}
 use Rattle.listing.specs.Listing.{segmentRows, sliceRows}
 use Rattle.standard.specs.Stretch.{Stretch, readIn, startOf, segment, segments}
-use Rattle.text.specs.Text.{Wrote, decimal, row}
+use Rattle.text.specs.Text.{row}
 use Rattle.text.proofs.Writing.{short}
 
 -- a row of six numbers, and one of four
@@ -19,24 +19,16 @@ six-short a b c d e f = simp length-append (omega (arith, short a, short b, shor
 pub four-short : (a b c d : ℕ) → length (row (a ∷ b ∷ c ∷ d ∷ [])) ≤ 44
 four-short a b c d = simp length-append (omega (arith, short a, short b, short c, short d))
 
-pub wrote-as : {a b m n : List ℕ} {at r : ℕ} → Wrote a at m b r → m ≡ n → Wrote a at n b r
-wrote-as {a} {b} {m} {n} {at} {r} w e = subst (λ (l : List ℕ). Wrote a at l b r) e w
-
 getD-behind : (l m : List ℕ) (j : ℕ) → getD (l ++ m) (length l + j) 0 ≡ getD m j 0
 getD-behind [] m j = ap (λ (k : ℕ). getD m k 0) (omega arith)
 getD-behind (x ∷ l) m j = let e : suc (length l) + j ≡ suc (length l + j) = omega arith in ap (λ (k : ℕ). getD ((x ∷ l) ++ m) k 0) e ∙ getD-behind l m j
 
 module _ (S : ℕ → Stretch) where
-  segments-length : (n : ℕ) → length (segments S n) ≡ 4 * n
-  unfolding segments segment
-  segments-length zero = refl
-  segments-length (suc n) = simp length-append (omega (arith, segments-length n))
-
   -- the numbers of segment k among n segments, whatever stands behind them
   last-place : (n i j : ℕ) (rest : List ℕ) → i ≡ 4 * n + j → j < 4 → getD (segments S n ++ (segment S n ++ rest)) i 0 ≡ getD (segment S n) j 0
   unfolding segment
   last-place n i j rest e h =
-      ap (λ (k : ℕ). getD (segments S n ++ (segment S n ++ rest)) k 0) (omega (arith, segments-length n))
+      ap (λ (k : ℕ). getD (segments S n ++ (segment S n ++ rest)) k 0) (omega (arith, segments-length S n))
       ∙ (getD-behind (segments S n) (segment S n ++ rest) j ∙ List·getD-append (segment S n) rest 0 j h)
 
   place : (n k i j : ℕ) (rest : List ℕ) → k < n → i ≡ 4 * k + j → j < 4 → getD (segments S n ++ rest) i 0 ≡ getD (segment S k) j 0

@@ -3,7 +3,6 @@ use Prim.Native.Nat.{ℕ, _+_, _*_, _≤_, _<_}
 use mathlib.Core.List.{List, [], _∷_}
 use mathlib.Core.Logic.{inl, inr}
 use mathlib.Core.Path.{_≡_, refl, ap, sym, _∙_}
-use denote.Enum.Declared
 use lib.ListN.{length}
 use native.Mathlib.Omega.{arith}
 use types.Run.{OneOf}
@@ -12,16 +11,11 @@ use Rattle.figures.specs.declared.site.Site.{Site}
 use Rattle.figures.specs.declared.roof.Span.{Span}
 use Rattle.listing.specs.Listing.{itemRows, itemsRows, rowsUnder}
 use Rattle.sheet.proofs.Kept.{sheet-kept}
-use Rattle.sheet.proofs.Places.{later}
-use Rattle.sheet.proofs.items.Item as the-item
-use Rattle.sheet.specs.Items.{Content, site, contentBy, content, ruleNumber}
+use Rattle.sheet.proofs.Places.{later, variant}
+use Rattle.sheet.specs.Items.{site, contentBy, content, ruleNumber}
 use Rattle.sheet.specs.Sheet.{accepted, terminals, offset, size, part, itemNumber, sheetVerdict}
 use Rattle.sheet.specs.declared.items.Item.{Item}
 use Rattle.sheet.specs.declared.items.Item.the-variants.{SiteItem, RoofItem, Malformed}
-
--- the variant of an item, counted from 0
-abbrev variant : Item → ℕ
-variant x = Declared.tagOf the-item.the-type x
 
 -- an item that is no roof has no rows, and a sheet whose first item is no site has none
 pub no-roof : (s : Site) (item : ℕ) (x : Item) (l : List Span) → OneOf (0 ∷ 2 ∷ []) (variant x) → [] ≡ itemRows s item (contentBy x l)

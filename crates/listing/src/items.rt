@@ -1,6 +1,6 @@
 // The rows of a sheet's items.
 ghost use mathlib.Core.Path.{_≡_};
-ghost use Prim.Native.Nat.{_+_, _*_, _-_, _≤_, _<_};
+ghost use Prim.Native.Nat.{_+_, _-_, _≤_, _<_};
 ghost use lib.ListN.{length};
 ghost use Rattle.figures.specs.SiteRules.{siteRefusal};
 ghost use Rattle.listing.specs.Listing.{itemRows, itemsRows, rowsUnder};

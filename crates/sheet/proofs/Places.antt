@@ -13,7 +13,7 @@ use Rattle.sheet.specs.declared.items.Item.{Item}
 use Rattle.sheet.specs.declared.items.Item.the-variants.{SiteItem, RoofItem, Malformed}
 
 -- the variant of an item, counted from 0
-abbrev variant : Item → ℕ
+abbrev pub variant : Item → ℕ
 variant x = Declared.tagOf the-item.the-type x
 
 pub first-misplaced : (x : Item) (l : List Span) → OneOf (1 ∷ 2 ∷ []) (variant x) → misplaced x ≡ ruleNumber 0 (contentBy x l)

@@ -21,7 +21,10 @@ fn input_ended() -> bool {
         return false;
     }
     if more > 0 {
-        io::write_all(libc::STDERR_FILENO, b"read: the input went on after its end\n");
+        io::write_all(
+            libc::STDERR_FILENO,
+            b"read: the input went on after its end\n",
+        );
         return false;
     }
     true

@@ -3,7 +3,6 @@ use Prim.Native.Nat.{ℕ}
 use mathlib.Core.List.{List, [], _∷_}
 use mathlib.Core.Logic.{inl, inr}
 use mathlib.Core.Path.{_≡_, refl, ap, sym, _∙_}
-use denote.Enum.Declared
 use native.Mathlib.Omega.{arith}
 use types.Run.{OneOf}
 use Rattle.arrangement.specs.Arrangement.{madeMeans, contents}
@@ -12,7 +11,7 @@ use Rattle.arrangement.specs.declared.Made.the-variants.{Segments, Refused}
 use Rattle.figures.specs.declared.site.Site.{Site}
 use Rattle.figures.specs.declared.roof.Roof.{Roof}
 use Rattle.figures.specs.declared.roof.Span.{Span}
-use Rattle.sheet.proofs.items.Item as the-item
+use Rattle.sheet.proofs.Places.{variant}
 use Rattle.sheet.specs.Items.{Content, site, contentBy}
 use Rattle.sheet.specs.declared.items.Item.{Item}
 use Rattle.sheet.specs.declared.items.Item.the-variants.{SiteItem, RoofItem, Malformed}
@@ -20,10 +19,6 @@ use Rattle.standard.specs.Coefficients.{recommendedFigures}
 use Rattle.terminal.specs.Calls.{Target, noRoof, targetOf, foundBy, foundMeans, sliceBy}
 use Rattle.terminal.specs.declared.finding.Finding.{Finding}
 use Rattle.terminal.specs.declared.finding.Found.{Found}
-
--- the variant of an item, counted from 0
-abbrev variant : Item → ℕ
-variant x = Declared.tagOf the-item.the-type x
 
 pub no-site : (x : Item) (l : List Span) (c : Content) → OneOf (1 ∷ 2 ∷ []) (variant x) → noRoof ≡ targetOf (contentBy x l) c
 no-site (SiteItem t) l c (inl e) = absurd (omega arith)

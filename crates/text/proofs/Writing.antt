@@ -1,16 +1,16 @@
 -- Texts one after the other, and how long they are.
 use Prim.Native.Nat.{ℕ, zero, suc, _+_, _*_, _/_, _%_, _^_, _≤_, _<_}
 use mathlib.Core.Path.{_≡_, _∙_, ap, sym, refl, subst}
-use mathlib.Core.List.{List, [], _∷_, _++_}
+use mathlib.Core.List.{List, [], _∷_, _++_, append-assoc}
 use mathlib.Core.Bool.{Bool, true, false, cond}
 use native.Mathlib.Nat.{pow-suc}
 use native.Mathlib.Numerals.{add-one}
 use native.Mathlib.Omega.{arith}
-use borrow.Author.Tests.{ltb-true, ltb-false, lt-ltb, le-ltb}
+use borrow.Author.Tests.{lt-ltb, le-ltb}
 use lib.Dec.{ltb}
 use lib.ListN.{length, set, take, drop, getD, length-append}
 use lib.Seq.{sets, length-sets, sets-eq, take-suc}
-use Rattle.text.specs.Text.{Wrote, decimalIn, decimal, field, row}
+use Rattle.text.specs.Text.{Wrote, decimalIn, decimal, digit, pairOf, fourOf}
 
 -- one text behind the other is their append
 sets-append : (b : List ℕ) (at : ℕ) (m n : List ℕ) → sets (sets b at m) (at + length m) n ≡ sets b at (m ++ n)
@@ -65,15 +65,13 @@ pub more-digits : (n : ℕ) → 10 ≤ n → n < 2 ^ 32 → decimal n ≡ decima
 unfolding decimal
 more-digits n h s = step 8 n h (omega arith)
 
-pub one-long : (n : ℕ) → n < 10 → length (decimal n) ≡ 1
-one-long n h = ap length (one-digit n h)
-
-pub more-long : (n : ℕ) → 10 ≤ n → n < 2 ^ 32 → length (decimal n) ≡ length (decimal (n / 10)) + 1
-more-long n h s = ap length (more-digits n h s) ∙ length-append (decimal (n / 10)) ((48 + n % 10) ∷ [])
-
 -- no text
 pub none : (b : List ℕ) (at : ℕ) → Wrote b at [] b at
 none b at = record { bytes = refl; end = omega arith }
+
+-- the same text by another name
+pub wrote-as : {a b m n : List ℕ} {at r : ℕ} → Wrote a at m b r → m ≡ n → Wrote a at n b r
+wrote-as {a} {b} {m} {n} {at} {r} w e = subst (λ (l : List ℕ). Wrote a at l b r) e w
 
 -- the lent bytes keep their number; with room for the text they are the old front, the text and the old rest
 pub room : {before after text : List ℕ} {at r : ℕ} → Wrote before at text after r → length after ≡ length before
@@ -94,3 +92,45 @@ one-more {b} {c} {at} text i h w =
     let x = getD text i 0 in
     subst (λ (r : ℕ). Wrote b at (take (i + 1) text) (set c (at + i) x) r) f
     (subst (λ (l : List ℕ). Wrote b at l (set c (at + i) x) (at + i + 1)) (sym e) (then w (byte c (at + i) x)))
+
+-- two digits behind the others
+pub pair-behind : (n : ℕ) → 100 ≤ n → n < 2 ^ 32 → decimal n ≡ decimal (n / 100) ++ pairOf n
+pair-behind n h s =
+    let e : n / 10 / 10 ≡ n / 100 = omega arith in
+    more-digits n (omega arith) s
+    ∙ (ap (λ (l : List ℕ). l ++ (digit n ∷ [])) (more-digits (n / 10) (omega arith) (omega arith))
+    ∙ (append-assoc (decimal (n / 10 / 10)) (digit (n / 10) ∷ []) (digit n ∷ []) ∙ ap (λ (k : ℕ). decimal k ++ pairOf n) e))
+
+-- a number of two digits
+pub pair-alone : (n : ℕ) → 10 ≤ n → n < 100 → decimal n ≡ pairOf n
+pair-alone n h s =
+    let e : 48 + n / 10 ≡ digit (n / 10) = omega arith in
+    more-digits n h (omega arith) ∙ (ap (λ (l : List ℕ). l ++ (digit n ∷ [])) (one-digit (n / 10) (omega arith)) ∙ ap (λ (d : ℕ). d ∷ digit n ∷ []) e)
+
+-- four digits behind the others
+pub four-behind : (n : ℕ) → 10000 ≤ n → n < 2 ^ 32 → decimal n ≡ decimal (n / 10000) ++ fourOf n
+four-behind n h s =
+    let e : n / 100 / 100 ≡ n / 10000 = omega arith in
+    pair-behind n (omega arith) s
+    ∙ (ap (λ (l : List ℕ). l ++ pairOf n) (pair-behind (n / 100) (omega arith) (omega arith))
+    ∙ (append-assoc (decimal (n / 100 / 100)) (pairOf (n / 100)) (pairOf n) ∙ ap (λ (k : ℕ). decimal k ++ fourOf n) e))
+
+-- only the last digits count
+pub pair-last : (n : ℕ) → pairOf (n % 100) ≡ pairOf n
+pair-last n =
+    let d : digit (n % 100 / 10) ≡ digit (n / 10) = omega arith in
+    let e : digit (n % 100) ≡ digit n = omega arith in
+    ap (λ (x : ℕ). x ∷ digit (n % 100) ∷ []) d ∙ ap (λ (y : ℕ). digit (n / 10) ∷ y ∷ []) e
+
+pub four-last : (n : ℕ) → fourOf (n % 10000) ≡ fourOf n
+four-last n =
+    let d : n % 10000 / 100 ≡ n / 100 % 100 = omega arith in
+    let e : n % 10000 % 100 ≡ n % 100 = omega arith in
+    ap (λ (l : List ℕ). l ++ pairOf (n % 10000)) (ap pairOf d ∙ pair-last (n / 100))
+    ∙ ap (λ (l : List ℕ). pairOf (n / 100) ++ l) (sym (pair-last (n % 10000)) ∙ (ap pairOf e ∙ pair-last n))
+
+pub eight-behind : (n : ℕ) → 100000000 ≤ n → n < 2 ^ 32 → decimal n ≡ (decimal (n / 100000000) ++ fourOf (n / 10000)) ++ fourOf n
+eight-behind n h s =
+    let e : n / 10000 / 10000 ≡ n / 100000000 = omega arith in
+    four-behind n (omega arith) s
+    ∙ ap (λ (l : List ℕ). l ++ fourOf n) (four-behind (n / 10000) (omega arith) (omega arith) ∙ ap (λ (k : ℕ). decimal k ++ fourOf (n / 10000)) e)

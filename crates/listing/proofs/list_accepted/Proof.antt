@@ -1,7 +1,6 @@
 use Rattle.listing.specs.Listing.{listingBy}
 use Rattle.text.proofs.Writing.{then}
 use borrow.Author.Needs.{needs}
-use native.Mathlib.Omega.{arith}
 use Rattle.listing.proofs.list_accepted.Statement.{statement}
 use Rattle.listing.proofs.list_accepted.Tie as tie
 

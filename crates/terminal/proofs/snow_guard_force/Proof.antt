@@ -2,7 +2,6 @@ use mathlib.Core.Path.{ap, _∙_}
 use Rattle.terminal.proofs.Targets.{told}
 use Rattle.terminal.specs.Calls.{Target, forceCode, guardCode}
 use borrow.Author.Needs.{needs}
-use native.Mathlib.Omega.{arith}
 use Rattle.terminal.proofs.snow_guard_force.Statement.{statement}
 use Rattle.terminal.proofs.snow_guard_force.Tie as tie
 

@@ -5,7 +5,6 @@ use Rattle.standard.specs.Answers.{Answer}
 use Rattle.terminal.proofs.Targets.{told, slice-means}
 use Rattle.terminal.specs.Calls.{Target, answerCode, makeCode, sliceBy, sliceAfter}
 use borrow.Author.Needs.{needs}
-use native.Mathlib.Omega.{arith}
 use Rattle.terminal.proofs.snow_make.Statement.{statement}
 use Rattle.terminal.proofs.snow_make.Tie as tie
 
@@ -37,7 +36,7 @@ same-length : tie.Need-same-length
 same-length c = search needs
 
 returns : tie.Need-returns
-returns c = 
+returns c =
     let e = told (c .before .before .before .before .before .before .before .find .result) _ _ (c .before .before .before .before .before .enum-told .given .1) (c .before .before .before .before .before .before .before .find .ensures) in
     let m = c .before .before .before .make in (
       c .made .ensures ∙ (ap (answerCode (c .before .before .before .before .before .before .before .before .before .before .args .item)) (m .ensures .0) ∙ ap (λ (t : Target). makeCode t (c .before .before .before .before .before .before .before .before .before .before .args .item) (c .before .before .before .before .before .before .before .before .before .before .args .code) (length (now (c .before .before .before .before .before .before .before .before .before .before .args .out)))) e),

@@ -1,11 +1,10 @@
 use mathlib.Core.Path.{_≡_, ap, sym, _∙_}
 use denote.Ref.{now}
 use Rattle.listing.specs.Listing.{itemRows}
-use Rattle.listing.proofs.Lines.{wrote-as}
 use Rattle.listing.proofs.Sheets.{no-roof}
 use Rattle.sheet.specs.Items.{roof, contentBy, content, ruleNumber}
 use Rattle.sheet.specs.declared.items.Item.{Item}
-use Rattle.text.proofs.Writing.{then, none}
+use Rattle.text.proofs.Writing.{then, none, wrote-as}
 use borrow.Author.Needs.{needs}
 use native.Mathlib.Omega.{arith}
 use Rattle.listing.proofs.items.list_item.Statement.{statement}

@@ -4,11 +4,10 @@ use native.Mathlib.Numerals.{add-one}
 use denote.Ref.{now}
 use lib.ListN.{length}
 use Rattle.listing.specs.Listing.{itemRows, itemsRows}
-use Rattle.listing.proofs.Lines.{wrote-as}
 use Rattle.listing.proofs.Sheets.{first-none, some-items, few-items, pair-within, item-within, later-sound, site-sound}
 use Rattle.sheet.specs.Items.{content, ruleNumber}
 use Rattle.text.specs.Text.{Wrote}
-use Rattle.text.proofs.Writing.{then, none}
+use Rattle.text.proofs.Writing.{then, none, wrote-as}
 use borrow.Author.Needs.{needs}
 use native.Mathlib.Omega.{arith}
 use Rattle.listing.proofs.items.list_items.Statement.{statement}
@@ -49,7 +48,7 @@ same-length-2 : tie.Need-same-length-2 Inv-loop μ-loop
 same-length-2 c = search needs
 
 returns : tie.Need-returns Inv-loop μ-loop
-returns c = 
+returns c =
     let e : c .before .loop .i ≡ c .before .before .before .before .before .args .n = omega (arith, c .before .loop .inv .1, c .loop-test .left) in
     wrote-as (c .before .loop .inv .5) (ap (itemsRows (now (c .before .before .before .before .before .args .sheet)) (c .before .before .before .before .before .args .site)) e)
 

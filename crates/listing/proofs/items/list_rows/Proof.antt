@@ -1,14 +1,12 @@
 use mathlib.Core.Path.{_≡_, ap, sym, _∙_}
 use denote.Ref.{now}
 use Rattle.listing.specs.Listing.{rowsUnder}
-use Rattle.listing.proofs.Lines.{wrote-as}
 use Rattle.listing.proofs.Sheets.{no-site, some-items, pair-within, item-within}
 use Rattle.sheet.specs.Items.{Content, site, contentBy, content}
 use Rattle.sheet.specs.Sheet.{part}
 use Rattle.sheet.specs.declared.items.Item.{Item}
-use Rattle.text.proofs.Writing.{none}
+use Rattle.text.proofs.Writing.{none, wrote-as}
 use borrow.Author.Needs.{needs}
-use native.Mathlib.Omega.{arith}
 use Rattle.listing.proofs.items.list_rows.Statement.{statement}
 use Rattle.listing.proofs.items.list_rows.Tie as tie
 

@@ -5,12 +5,11 @@ use denote.Ref.{now}
 use lib.ListN.{length, drop}
 use Rattle.arrangement.specs.Arrangement.{madeMeans, contents}
 use Rattle.listing.proofs.Codes.{rows-few, counted-rows, code-rows, no-rows}
-use Rattle.listing.proofs.Lines.{wrote-as}
 use Rattle.standard.specs.Answers.{value, makeAnswer}
 use Rattle.standard.specs.Arrangements.{stretch}
 use Rattle.standard.specs.Coefficients.{recommendedFigures}
 use Rattle.standard.specs.Stretch.{segments}
-use Rattle.text.proofs.Writing.{none}
+use Rattle.text.proofs.Writing.{none, wrote-as}
 use borrow.Author.Needs.{needs}
 use native.Mathlib.Omega.{arith}
 use Rattle.listing.proofs.roofs.list_code.Statement.{statement}
@@ -35,7 +34,7 @@ enum-known-n : tie.Need-enum-known-n
 enum-known-n c = search needs
 
 list-segments-requires : tie.Need-list-segments-requires
-list-segments-requires c κs = 
+list-segments-requires c κs =
     let k = counted-rows (c .before .before .before .before .before .before .before .before .before .before .before .args .site) (c .before .before .before .before .before .before .before .before .before .before .before .args .roof) (c .before .before .before .before .before .before .before .before .before .before .before .args .code) (c .before .before .before .before .before .before .before .before .before .before .before .pre .0) (c .before .before .before .before .before .before .before .before .before .before .before .pre .1) (length (now (c .before .before .before .before .before .before .before .before .before .before .before .args .numbers))) (c .before .before .before .before .before .before .before .before .before .before .before .pre .2) _ (answer (c .before .before)) in
     (omega (arith, k, rows-few (c .before .before .before .before .before .before .before .before .before .before .before .args .site) (c .before .before .before .before .before .before .before .before .before .before .before .args .roof) (c .before .before .before .before .before .before .before .before .before .before .before .args .code) (c .before .before .before .before .before .before .before .before .before .before .before .pre .0) (c .before .before .before .before .before .before .before .before .before .before .before .pre .1), c .before .before .before .before .before .before .before .make .kept .1 .1 .1 .0, c .before .before .before .before .before .before .before .before .before .before .before .pre .2), omega (arith, k, c .before .before .before .before .before .before .before .before .before .before .before .pre .3))
 
@@ -49,7 +48,7 @@ same-length-2 : tie.Need-same-length-2
 same-length-2 c = search needs
 
 returns : tie.Need-returns
-returns c = 
+returns c =
     let d = c .before .before .before .before .before in
     let k = counted-rows (c .before .before .before .before .before .before .before .before .before .before .before .before .before .before .args .site) (c .before .before .before .before .before .before .before .before .before .before .before .before .before .before .args .roof) (c .before .before .before .before .before .before .before .before .before .before .before .before .before .before .args .code) (c .before .before .before .before .before .before .before .before .before .before .before .before .before .before .pre .0) (c .before .before .before .before .before .before .before .before .before .before .before .before .before .before .pre .1) (length (now (c .before .before .before .before .before .before .before .before .before .before .before .before .before .before .args .numbers))) (c .before .before .before .before .before .before .before .before .before .before .before .before .before .before .pre .2) _ (answer d) in
     (wrote-as (c .before .before .list-segments .ensures .0) (code-rows (c .before .before .before .before .before .before .before .before .before .before .before .before .before .before .args .site) (c .before .before .before .before .before .before .before .before .before .before .before .before .before .before .args .roof) (c .before .before .before .before .before .before .before .before .before .before .before .before .before .before .args .code) (c .before .before .before .before .before .before .before .before .before .before .before .before .before .before .pre .0) (c .before .before .before .before .before .before .before .before .before .before .before .before .before .before .pre .1) (length (now (c .before .before .before .before .before .before .before .before .before .before .before .before .before .before .args .numbers))) (c .before .before .before .before .before .before .before .before .before .before .before .before .before .before .pre .2) _ _ _ _ (answer d) (written d)), omega (arith, k, c .before .before .list-segments .ensures .1))

@@ -1,7 +1,6 @@
 use mathlib.Core.Path.{ap}
 use Rattle.listing.specs.Listing.{forceRow, slopeRows}
-use Rattle.listing.proofs.Lines.{wrote-as}
-use Rattle.text.proofs.Writing.{then}
+use Rattle.text.proofs.Writing.{then, wrote-as}
 use borrow.Author.Needs.{needs}
 use native.Mathlib.Omega.{arith}
 use Rattle.listing.proofs.roofs.list_slope.Statement.{statement}

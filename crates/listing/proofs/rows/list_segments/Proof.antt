@@ -4,9 +4,8 @@ use native.Mathlib.Numerals.{add-one}
 use denote.Ref.{now}
 use lib.ListN.{length}
 use Rattle.listing.specs.Listing.{sliceRows}
-use Rattle.listing.proofs.Lines.{wrote-as}
 use Rattle.text.specs.Text.{Wrote}
-use Rattle.text.proofs.Writing.{then, none}
+use Rattle.text.proofs.Writing.{then, none, wrote-as}
 use borrow.Author.Needs.{needs}
 use native.Mathlib.Omega.{arith}
 use Rattle.listing.proofs.rows.list_segments.Statement.{statement}
@@ -76,7 +75,7 @@ same-length c = search needs
 
 returns : tie.Need-returns Inv-loop μ-loop
 unfolding sliceRows
-returns c = 
+returns c =
     let e : c .before .loop .i ≡ c .before .before .before .before .args .n = omega arith in
     (wrote-as (c .before .loop .inv .3) (ap (sliceRows (now (c .before .before .before .before .args .numbers)) (c .before .before .before .before .args .item) (c .before .before .before .before .args .code)) e), omega arith)
 

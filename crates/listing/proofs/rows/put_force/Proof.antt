@@ -1,9 +1,8 @@
 use denote.Ref.{now}
 use mathlib.Core.Path.{ap, sym}
 use Rattle.listing.specs.Listing.{forceRow}
-use Rattle.listing.proofs.Lines.{wrote-as}
 use Rattle.local_forces.specs.Answers.{forceMeans}
-use Rattle.text.proofs.Writing.{then, none}
+use Rattle.text.proofs.Writing.{none, wrote-as}
 use borrow.Author.Needs.{needs}
 use native.Mathlib.Omega.{arith}
 use Rattle.listing.proofs.rows.put_force.Statement.{statement}
@@ -25,7 +24,7 @@ same-length : tie.Need-same-length
 same-length c = search needs
 
 returns : tie.Need-returns
-returns c = 
+returns c =
     (wrote-as (c .before .before .put-row4 .ensures .0) (ap (λ f. forceRow (c .before .before .before .before .before .before .before .before .args .item) (c .before .before .before .before .before .before .before .before .args .code) (c .before .before .before .before .before .before .before .before .args .slope) (forceMeans f)) (sym (c .before .before .before .before .before .force .given .1))), omega arith)
 
 returns-2 : tie.Need-returns-2

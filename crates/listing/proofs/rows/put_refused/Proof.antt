@@ -1,6 +1,5 @@
 use Rattle.text.proofs.Writing.{then}
 use borrow.Author.Needs.{needs}
-use native.Mathlib.Omega.{arith}
 use Rattle.listing.proofs.rows.put_refused.Statement.{statement}
 use Rattle.listing.proofs.rows.put_refused.Tie as tie
 

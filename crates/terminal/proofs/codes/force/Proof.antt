@@ -3,7 +3,6 @@ use Rattle.local_forces.specs.Answers.{forceMeans}
 use Rattle.local_forces.specs.declared.answers.LocalForce.{LocalForce}
 use Rattle.terminal.specs.Calls.{forceCode}
 use borrow.Author.Needs.{needs}
-use native.Mathlib.Omega.{arith}
 use Rattle.terminal.proofs.codes.force.Statement.{statement}
 use Rattle.terminal.proofs.codes.force.Tie as tie
 

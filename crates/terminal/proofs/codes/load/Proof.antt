@@ -3,7 +3,6 @@ use Rattle.reading.specs.Reading.{readingMeans}
 use Rattle.reading.specs.declared.Reading.{Reading}
 use Rattle.terminal.specs.Calls.{answerCode}
 use borrow.Author.Needs.{needs}
-use native.Mathlib.Omega.{arith}
 use Rattle.terminal.proofs.codes.load.Statement.{statement}
 use Rattle.terminal.proofs.codes.load.Tie as tie
 

@@ -2,7 +2,6 @@ use Prim.Native.Nat.{ℕ, _+_, _*_}
 use mathlib.Core.Path.{ap}
 use Rattle.terminal.specs.Calls.{refusalCode}
 use borrow.Author.Needs.{needs}
-use native.Mathlib.Omega.{arith}
 use Rattle.terminal.proofs.codes.refusal.Statement.{statement}
 use Rattle.terminal.proofs.codes.refusal.Tie as tie
 

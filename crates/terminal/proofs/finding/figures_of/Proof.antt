@@ -6,7 +6,6 @@ use Rattle.sheet.specs.declared.items.Item.{Item}
 use Rattle.terminal.proofs.Targets.{no-site, no-roof}
 use Rattle.terminal.specs.Calls.{targetOf}
 use borrow.Author.Needs.{needs}
-use native.Mathlib.Omega.{arith}
 use Rattle.terminal.proofs.finding.figures_of.Statement.{statement}
 use Rattle.terminal.proofs.finding.figures_of.Tie as tie
 
@@ -47,12 +46,12 @@ no-roof-requires-2 : tie.Need-no-roof-requires-2
 no-roof-requires-2 c κs = search needs
 
 returns-2 : tie.Need-returns-2
-returns-2 c = 
+returns-2 c =
     let d = c .before .before in
     c .no-roof2 .ensures ∙ (no-roof (c .before .before .before .first-item .given .0 .0) (c .before .before .before .before .before .before .decode2 .result .item) (c .before .before .before .before .before .before .decode2 .result .spans) (c .before .match2 .keys2) ∙ (ap (targetOf (site (c .before .before .before .first-item .given .0 .0))) (said-item (d .before .before .before .before)) ∙ ap (λ (k : Content). targetOf k (content (part (now (c .before .before .before .before .before .before .before .before .before .before .before .args .sheet)) (c .before .before .before .before .before .before .before .before .before .before .before .args .item)))) (said-site d)))
 
 returns-3 : tie.Need-returns-3
-returns-3 c = 
+returns-3 c =
     let d = c .before .before .before in
     let s = site (c .before .before .before .before .first-item .given .0 .0) in
     ap (λ (x : Item). targetOf s (contentBy x (c .before .before .before .before .before .before .before .decode2 .result .spans))) (sym (c .before .said-item .given .1)) ∙ (ap (targetOf s) (said-item (d .before .before .before .before)) ∙ ap (λ (k : Content). targetOf k (content (part (now (c .before .before .before .before .before .before .before .before .before .before .before .before .args .sheet)) (c .before .before .before .before .before .before .before .before .before .before .before .before .args .item)))) (said-site d))

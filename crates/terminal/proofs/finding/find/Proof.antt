@@ -4,7 +4,6 @@ use Rattle.sheet.proofs.Kept.{pairs-at}
 use Rattle.sheet.specs.Sheet.{Answer, Place, accepted, terminals, place, locatedMeans}
 use Rattle.terminal.specs.Calls.{targetBy, target}
 use borrow.Author.Needs.{needs}
-use native.Mathlib.Omega.{arith}
 use Rattle.terminal.proofs.finding.find.Statement.{statement}
 use Rattle.terminal.proofs.finding.find.Tie as tie
 
