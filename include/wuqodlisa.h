@@ -14,10 +14,11 @@
 extern "C" {
 #endif
 
-/* A refusal is 0x80000000 + 256 * number + item; an item above 255 shows as 255. Any other answer is below it. */
+/* A refusal is 0x80000000 + 256 * number + item; an item above 255 shows as 255. A count is at most 32, a load at most
+ * 14,400,000 and a force at most 2,400,000, so no other answer but SNOW_NONE reaches 0x80000000. */
 #define SNOW_REFUSED 0x80000000u
 
-/* The answer where there is no such force. */
+/* The answer where there is no such force. No refusal has this value: its number would be above 13. */
 #define SNOW_NONE 0xFFFFFFFFu
 
 /* A number of bytes that holds the listing of any sheet. */
@@ -27,20 +28,23 @@ extern "C" {
 uint32_t snow_verdict(const uint8_t *sheet, size_t length);
 
 /* Writes the segments of an item's arrangement at the front of out, four numbers each: start, end, load, load.
- * The count of segments, or a refusal (1 to 10, 12 for the index, 13, 11), which alters nothing. */
+ * Numbers behind them keep their values. 128 numbers are room for any arrangement.
+ * The count of segments, or a refusal (1 to 10, 12 for the index, 13, 11), which alters nothing. The site, item 0,
+ * has no arrangement: 13. */
 uint32_t snow_make(const uint8_t *sheet, size_t length, size_t item, uint8_t code, uint32_t *out, size_t room);
 
 /* The load at a station, in N/m2, or a refusal (1 to 10, 12 for the index, 13, 12 for the station). */
 uint32_t snow_load(const uint8_t *sheet, size_t length, size_t item, uint8_t code, uint32_t station);
 
-/* The overhang at the eave of a slope, in N/m, SNOW_NONE, or a refusal (1 to 10, 12 for the index). */
+/* The overhang at the eave of a slope (1 left or only, 2 right), in N/m, SNOW_NONE, or a refusal (1 to 10, 12 for the
+ * index). The site, item 0, has none. */
 uint32_t snow_overhang(const uint8_t *sheet, size_t length, size_t item, uint8_t slope);
 
 /* The force at the guard of a slope, in N/m, SNOW_NONE, or a refusal (1 to 10, 12 for the index). */
 uint32_t snow_guard_force(const uint8_t *sheet, size_t length, size_t item, uint8_t slope);
 
 /* Writes the listing of a sheet at the front of out, the line REFUSED for a refused one, and answers its bytes.
- * Where room is less than SNOW_LIST_ROOM nothing is written and 0 is answered. */
+ * Bytes behind it keep their values. Where room is less than SNOW_LIST_ROOM nothing is written and 0 is answered. */
 size_t snow_list(const uint8_t *sheet, size_t length, uint8_t *out, size_t room);
 
 #ifdef __cplusplus

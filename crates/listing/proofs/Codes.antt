@@ -1,13 +1,15 @@
 -- Which codes of an accepted roof have rows, and how many.
 use Prim.Native.Nat.{ℕ, _+_, _-_, _*_, _≤_}
-use mathlib.Core.Bool.{Bool, true, false, cond, _&&_}
+use mathlib.Core.Bool.{Bool, true, false, cond, _&&_, _||_}
 use mathlib.Core.List.{List, [], _++_}
+use mathlib.Core.Logic.{_⊎_, inl, inr, ⊎-elim}
 use mathlib.Core.Path.{_≡_, refl, ap, sym, _∙_}
-use borrow.Author.Tests.{le-leb}
-use lib.Dec.{eqb}
+use borrow.Author.Tests.{le-leb, leb-true, eqb-true}
+use lib.Dec.{leb, eqb}
 use lib.ListN.{drop}
 use native.Mathlib.Omega.{arith}
-use Rattle.figures.proofs.Laws.{both}
+use Rattle.figures.proofs.Laws.{both, within-in}
+use Rattle.figures.specs.Ranges.{within}
 use Rattle.figures.specs.RoofRules.{roofRefusal}
 use Rattle.figures.specs.SiteRules.{siteRefusal}
 use Rattle.figures.specs.declared.site.Site.{Site}
@@ -44,6 +46,42 @@ module _ (shape : Shape) (situation code : ℕ) where
   persists : existsIn shape situation code ≡ true → persistent shape (baseCode code) ≡ true
   unfolding existsIn
   persists h = persists-by (accidental code) h
+
+either : (a b : Bool) → (a || b) ≡ true → (a ≡ true) ⊎ (b ≡ true)
+either true b h = inl refl
+either false b h = inr h
+
+one : (code : ℕ) → eqb code 1 ≡ true → within 1 3 code ≡ true
+one code h = rw (eqb-true code 1 h)
+
+two : (code : ℕ) → eqb code 2 ≡ true → within 1 3 code ≡ true
+two code h = rw (eqb-true code 2 h)
+
+one-or-two : (code : ℕ) → (eqb code 1 || eqb code 2) ≡ true → within 1 3 code ≡ true
+one-or-two code h = ⊎-elim (one code) (two code) (either (eqb code 1) (eqb code 2) h)
+
+three : (code : ℕ) → eqb code 3 ≡ true → within 1 3 code ≡ true
+three code h = rw (eqb-true code 3 h)
+
+-- a persistent code is 1, 2 or 3
+persistent-codes : (shape : Shape) (code : ℕ) → persistent shape code ≡ true → within 1 3 code ≡ true
+unfolding persistent
+persistent-codes (Monopitch slope guard) code h = one code h
+persistent-codes (Pitched left right leftGuard rightGuard) code h =
+    ⊎-elim (one-or-two code) (three code) (either (eqb code 1 || eqb code 2) (eqb code 3) h)
+persistent-codes (MultiSpan n) code h = one-or-two code h
+persistent-codes (Cylindrical rise span) code h = one-or-two code h
+persistent-codes (Abutting b1 b2 h' slope guard) code h = one-or-two code h
+persistent-codes (Projection h' left right) code h = two code h
+
+-- the codes that are listed are all that there are: 1, 2, 3, and 11, 12, 13
+pub listed-codes : (s : Site) (r : Roof) (code : ℕ) → exists s r code ≡ true → ((1 ≤ code) × (code ≤ 3)) ⊎ ((11 ≤ code) × (code ≤ 13))
+unfolding exists
+listed-codes s r code h = by-base (accidental code) refl (within-in 1 3 (baseCode code) (persistent-codes (r .shape) (baseCode code) (persists (r .shape) (s .situation) code h)))
+  where
+    by-base : (b : Bool) → leb 11 code ≡ b → (1 ≤ cond b (code - 10) code) × (cond b (code - 10) code ≤ 3) → ((1 ≤ code) × (code ≤ 3)) ⊎ ((11 ≤ code) × (code ≤ 13))
+    by-base true e w = let l : 11 ≤ code = leb-true 11 code e in inr (l, omega (arith, w .1))
+    by-base false e w = inl w
 
 module _ (s : Site) (r : Roof) (code : ℕ) where
   rows-by : (b : Bool) (limit : ℕ) → (b ≡ true → count recommendedFigures r code ≤ limit) → cond b (count recommendedFigures r code) 0 ≤ limit
