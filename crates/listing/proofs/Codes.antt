@@ -17,11 +17,12 @@ use Rattle.figures.specs.declared.roof.Roof.{Roof}
 use Rattle.figures.specs.declared.roof.Shape.{Shape}
 use Rattle.figures.specs.declared.roof.Shape.the-variants.{Monopitch, Pitched, MultiSpan, Cylindrical, Abutting, Projection}
 use Rattle.listing.proofs.Lines.{slice-rows}
-use Rattle.listing.specs.Listing.{codeRows, sliceRows, rowCount}
+use Rattle.listing.specs.Listing.{codeRows, forceRow, slopeRows, forceRows, sliceRows, hasForces, rowCount}
 use Rattle.standard.proofs.Demand.{well-formed, recommended-in}
 use Rattle.standard.specs.Answers.{Answer, value, refused, figuresRefusal, afterRules, makeAnswer}
 use Rattle.standard.specs.Arrangements.{persistent, exceptional, accidental, baseCode, existsIn, exists, countIn, count, stretch}
 use Rattle.standard.specs.Coefficients.{recommendedFigures}
+use Rattle.standard.specs.Forces as forces
 use Rattle.standard.specs.Stretch.{segments}
 use Rattle.standard.specs.declared.National.{National}
 
@@ -92,6 +93,36 @@ module _ (s : Site) (r : Roof) (code : ℕ) where
   unfolding rowCount exists count
   third-few e = rows-by (exists s r code) 2 (λ h. third-shape recommendedFigures (r .shape) (baseCode code) (ap (persistent (r .shape)) (sym e) ∙ persists (r .shape) (s .situation) code h))
 
+  pub missing-rows : (item : ℕ) → exists s r code ≡ false → [] ≡ codeRows s r item code
+  unfolding codeRows
+  missing-rows item h = rw h
+
+-- a shape without slopes of its own has no rows of forces
+no-slope : (shape : Shape) (n : ℕ) → hasForces shape ≡ false → forces.slopeAt shape n ≡ forces.noSlope
+unfolding hasForces forces.slopeAt
+no-slope (Monopitch slope guard) n h = let z : _≡_ {A = ℕ} 0 1 = cc in absurd (omega arith)
+no-slope (Pitched left right leftGuard rightGuard) n h = let z : _≡_ {A = ℕ} 0 1 = cc in absurd (omega arith)
+no-slope (MultiSpan count) n h = refl
+no-slope (Cylindrical rise span) n h = refl
+no-slope (Abutting b1 b2 h' slope guard) n h = refl
+no-slope (Projection h' left right) n h = refl
+
+module _ (s : Site) (r : Roof) (item : ℕ) (h : hasForces (r .shape) ≡ false) where
+  slope-none : (n : ℕ) → slopeRows s r item n ≡ []
+  unfolding slopeRows forces.overhangAnswer forces.guardAnswer forces.overhangAt forces.guardAt
+  slope-none n = rw (no-slope (r .shape) n h) (go (eqb (forces.valuesRefusal s r) 0))
+    where
+      go : (b : Bool)
+          → forceRow item 21 n (cond b forces.none (forces.refused (forces.valuesRefusal s r)))
+          ++ forceRow item 22 n (cond b forces.none (forces.refused (forces.valuesRefusal s r)))
+          ≡ []
+      go true = refl
+      go false = refl
+
+  pub forces-none : [] ≡ forceRows s r item
+  unfolding forceRows
+  forces-none = rw (slope-none 1, slope-none 2)
+
 module _ (s : Site) (r : Roof) (code : ℕ) (hs : siteRefusal s ≡ 0) (hr : roofRefusal r ≡ 0) where
   few : count recommendedFigures r code ≤ 32
   few = well-formed recommendedFigures s r code recommended-in hs hr .few
@@ -138,6 +169,6 @@ module _ (s : Site) (r : Roof) (code : ℕ) (hs : siteRefusal s ≡ 0) (hr : roo
         ap (λ (l : List ℕ). sliceRows l item code n) f
         ∙ (slice-rows (stretch recommendedFigures s r code) (drop (4 * n) old) n item code n (omega arith) ∙ rw (p .0, p .1))
 
-    pub no-rows : (m item : ℕ) → refused m ≡ makeAnswer recommendedFigures s r code room → [] ≡ codeRows s r item code
+    pub refused-rows : (m item : ℕ) → refused m ≡ makeAnswer recommendedFigures s r code room → [] ≡ codeRows s r item code
     unfolding codeRows
-    no-rows m item e = rw (missing-by (exists s r code) m (count recommendedFigures r code) (e ∙ answer room h))
+    refused-rows m item e = rw (missing-by (exists s r code) m (count recommendedFigures r code) (e ∙ answer room h))

@@ -1,10 +1,12 @@
 -- The listing of a sheet, as the list of its bytes.
 use Prim.Native.Nat.{ℕ, zero, suc, _+_, _*_}
-use mathlib.Core.Bool.{cond}
+use mathlib.Core.Bool.{Bool, true, false, cond}
 use mathlib.Core.List.{List, [], _∷_, _++_}
 use lib.Dec.{ltb}
 use lib.ListN.{length, getD, drop}
 use Rattle.figures.specs.declared.site.Site.{Site}
+use Rattle.figures.specs.declared.roof.Shape.{Shape}
+use Rattle.figures.specs.declared.roof.Shape.the-variants.{Monopitch, Pitched, MultiSpan, Cylindrical, Abutting, Projection}
 use Rattle.figures.specs.declared.roof.Roof.{Roof}
 use Rattle.sheet.specs.Items.{Content, site, roof, malformed, content}
 use Rattle.sheet.specs.Sheet.{Answer, accepted, refused, terminals, part, sheetVerdict}
@@ -101,3 +103,12 @@ sliceRows numbers item code (suc k) =
 -- the number of rows of an arrangement
 unfoldable pub rowCount : Site → Roof → ℕ → ℕ
 rowCount s r code = cond (exists s r code) (count recommendedFigures r code) 0
+
+-- kinds 2 and 3 have local forces
+unfoldable pub hasForces : Shape → Bool
+hasForces (Monopitch slope guard) = true
+hasForces (Pitched left right leftGuard rightGuard) = true
+hasForces (MultiSpan n) = false
+hasForces (Cylindrical rise span) = false
+hasForces (Abutting b1 b2 h slope guard) = false
+hasForces (Projection h left right) = false

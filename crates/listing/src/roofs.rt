@@ -4,7 +4,7 @@ ghost use Prim.Native.Nat.{_+_, _*_, _≤_};
 ghost use lib.ListN.{length};
 ghost use Rattle.figures.specs.RoofRules.{roofRefusal};
 ghost use Rattle.figures.specs.SiteRules.{siteRefusal};
-ghost use Rattle.listing.specs.Listing.{codeRows, caseRows, arrangementRows, slopeRows, forceRows, rowCount};
+ghost use Rattle.listing.specs.Listing.{codeRows, caseRows, arrangementRows, slopeRows, forceRows, hasForces, rowCount};
 ghost use Rattle.standard.specs.Arrangements.{baseCode};
 ghost use Rattle.text.specs.Text.{Wrote};
 use crate::rows::list_segments;
@@ -12,9 +12,11 @@ use crate::rows::put_force;
 use arrangement::Made;
 use arrangement::make;
 use figures::Roof;
+use figures::Shape;
 use figures::Site;
 use local_forces::guard_force;
 use local_forces::overhang;
+use segments::has_code;
 
 // The numbers in front of a row of a force.
 const OVERHANG: u32 = 21;
@@ -35,6 +37,9 @@ fn list_code(
     ensures { λ r. ⌜ Wrote (now (out .entry)) at (codeRows site roof item code) (now (out .exit)) r ⌝ }
     ensures { λ r. ⌜ r ≤ at + 66 * rowCount site roof code ⌝ }
 {
+    if !has_code(site, roof, code) {
+        return at;
+    }
     match make(site, roof, code, numbers) {
         Made::Segments(n) => list_segments(numbers, n, item, code as u32, out, at),
         Made::Refused(_) => at,
@@ -89,12 +94,30 @@ fn list_slope(site: Site, roof: Roof, item: u32, slope: u8, out: &mut [u8], at: 
     put_force(out, a, item, GUARD_FORCE, slope, guard)
 }
 
+// Whether a shape has slopes with local forces: kinds 2 and 3.
+fn has_forces(shape: Shape) -> bool
+    ensures { λ r. ⌜ r ≡ hasForces shape ⌝ }
+{
+    match shape {
+        Shape::Monopitch { .. } => true,
+        Shape::Pitched { .. } => true,
+        Shape::MultiSpan { .. } => false,
+        Shape::Cylindrical { .. } => false,
+        Shape::Abutting { .. } => false,
+        Shape::Projection { .. } => false,
+    }
+}
+
 // Writes the rows of the forces at both slopes.
 pub fn list_forces(site: Site, roof: Roof, item: u32, out: &mut [u8], at: usize) -> usize
     requires { ⌜ at + 176 ≤ length (now out) ⌝ }
     ensures { λ r. ⌜ Wrote (now (out .entry)) at (forceRows site roof item) (now (out .exit)) r ⌝ }
     ensures { λ r. ⌜ r ≤ at + 176 ⌝ }
 {
+    let shape = roof.shape;
+    if !has_forces(shape) {
+        return at;
+    }
     let a = list_slope(site, roof, item, 1, out, at);
     list_slope(site, roof, item, 2, out, a)
 }

@@ -13,6 +13,7 @@ mod refusals;
 
 pub use codes::base_code;
 pub use codes::factor;
+pub use codes::has_code;
 pub use dispatch::count;
 pub use dispatch::end;
 pub use dispatch::ramp_at;
