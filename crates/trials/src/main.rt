@@ -1,9 +1,8 @@
-// Reads stored sheets, sound and damaged, and compares what the library `sheet` answers with what is stored.
+// Reads stored sheets, sound and damaged, and holds the library's listing of each against the text stored with it.
 // The file has one record after the other: the sizes of the sheet and of its text, the sheet, the text.
-mod answers;
+mod listed;
 mod records;
 mod report;
-mod stored;
 
 ghost use mathlib.Core.Path.{_≡_};
 ghost use lib.ListN.{length};
@@ -13,6 +12,13 @@ fn file_room() -> [u8; 524288]
     ensures { λ r. ⌜ 524288 ≡ length r ⌝ }
 {
     [0; 524288]
+}
+
+// Room for the listing of any sheet.
+fn list_room() -> [u8; 275557]
+    ensures { λ r. ⌜ 275557 ≡ length r ⌝ }
+{
+    [0; 275557]
 }
 
 // Room for the lines that are written.
@@ -32,8 +38,9 @@ fn compare_file(fd: i32) {
         os::fail(b"read");
         return;
     }
+    let mut room = list_room();
     let mut out = text_room();
-    let written = records::compare(&bytes[..n], more > 0, &mut out);
+    let written = records::compare(&bytes[..n], more > 0, &mut room, &mut out);
     if !io::write_all(libc::STDOUT_FILENO, &out[..written]) {
         os::fail(b"write");
     }

@@ -1,19 +1,20 @@
 // The walk over the records of a file.
 ghost use Prim.Native.Nat.{_+_, _≤_, _<_};
 ghost use lib.ListN.{length};
-use crate::answers;
+ghost use Rattle.listing.specs.Listing.{listRoom};
+use crate::listed;
 use crate::report;
 
 // The bytes of a record before its sheet: the size of the sheet and the size of the text.
 const SIZES: usize = 8;
 
 // What the whole records came to: how many bytes of the file they take, how many sheets they are, how many of
-// these the library refuses and how many differ, and the end of the lines that were put.
+// these the library refuses and how many agree, and the end of the lines that were put.
 struct Totals {
     taken: usize,
     sheets: usize,
     refused: usize,
-    different: usize,
+    agree: usize,
     end: usize,
 }
 
@@ -43,13 +44,14 @@ fn one(so: bool) -> usize
 }
 
 // Compares one record after the other, up to the first that runs past the end of the file.
-fn walk(bytes: &[u8], out: &mut [u8]) -> Totals
+fn walk(bytes: &[u8], room: &mut [u8], out: &mut [u8]) -> Totals
+    requires { ⌜ listRoom ≤ length (now room) ⌝ }
     ensures { λ r. ⌜ r .end ≤ length (now (out .exit)) ⌝ }
 {
     let mut taken = 0;
     let mut sheets = 0;
     let mut refused = 0;
-    let mut different = 0;
+    let mut agree = 0;
     let mut end = 0;
     while SIZES <= bytes.len() - taken {
         let record = &bytes[taken..];
@@ -59,10 +61,10 @@ fn walk(bytes: &[u8], out: &mut [u8]) -> Totals
         if parts.len() < both {
             break;
         }
-        let outcome = answers::compare(&parts[..sheet], &parts[sheet..both]);
+        let outcome = listed::compare(&parts[..sheet], &parts[sheet..both], room);
         end = report::put_outcome(out, end, outcome, sheets);
         refused += one(outcome.refused);
-        different += one(outcome.different);
+        agree += one(outcome.agrees);
         sheets += 1;
         taken += SIZES + both;
     }
@@ -70,18 +72,20 @@ fn walk(bytes: &[u8], out: &mut [u8]) -> Totals
         taken: taken,
         sheets: sheets,
         refused: refused,
-        different: different,
+        agree: agree,
         end: end,
     }
 }
 
-// Compares the records and puts the lines that say what they came to. A file goes on past the end of these bytes
-// where it is longer than the room for it, and then the record there is damaged too.
-pub fn compare(bytes: &[u8], longer: bool, out: &mut [u8]) -> usize
+// Compares the records and puts the lines that say what they came to; the room takes one listing after the other. A
+// file goes on past the end of these bytes where it is longer than the room for it, and then the record there is
+// damaged too.
+pub fn compare(bytes: &[u8], longer: bool, room: &mut [u8], out: &mut [u8]) -> usize
+    requires { ⌜ listRoom ≤ length (now room) ⌝ }
     ensures { λ r. ⌜ r ≤ length (now (out .exit)) ⌝ }
 {
-    let totals = walk(bytes, out);
+    let totals = walk(bytes, room, out);
     let damaged = longer | (totals.taken < bytes.len());
     let end = report::put_damaged(out, totals.end, damaged, totals.sheets);
-    report::put_counts(out, end, totals.sheets, totals.refused, totals.different)
+    report::put_counts(out, end, totals.sheets, totals.refused, totals.agree)
 }

@@ -1,7 +1,7 @@
 // The lines that the program writes, put into a lent buffer. Each function answers the place after what it put.
 ghost use Prim.Native.Nat.{_≤_};
 ghost use lib.ListN.{length};
-use crate::answers::Outcome;
+use crate::listed::Outcome;
 
 // Enough room for a line on a record that differs and the last two lines.
 const LAST_LINES: usize = 160;
@@ -42,7 +42,7 @@ pub fn put_outcome(out: &mut [u8], at: usize, outcome: Outcome, record: usize) -
     requires { ⌜ at ≤ length (now out) ⌝ }
     ensures { λ r. ⌜ r ≤ length (now (out .exit)) ⌝ }
 {
-    if outcome.different & (LAST_LINES <= out.len() - at) {
+    if !outcome.agrees & (LAST_LINES <= out.len() - at) {
         return put_line(out, at, b"DIFFERENT ", record);
     }
     at
@@ -60,17 +60,11 @@ pub fn put_damaged(out: &mut [u8], at: usize, damaged: bool, record: usize) -> u
 }
 
 // Puts the line with the counts.
-pub fn put_counts(
-    out: &mut [u8],
-    at: usize,
-    sheets: usize,
-    refused: usize,
-    different: usize,
-) -> usize
+pub fn put_counts(out: &mut [u8], at: usize, sheets: usize, refused: usize, agree: usize) -> usize
     requires { ⌜ at ≤ length (now out) ⌝ }
     ensures { λ r. ⌜ r ≤ length (now (out .exit)) ⌝ }
 {
     let a = put_count(out, at, b"SHEETS ", sheets);
     let b = put_count(out, a, b" REFUSED ", refused);
-    put_line(out, b, b" DIFFERENT ", different)
+    put_line(out, b, b" AGREE ", agree)
 }

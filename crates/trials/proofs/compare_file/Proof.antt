@@ -29,6 +29,9 @@ fail-requires c κs = search needs
 returns : tie.Need-returns
 returns c = search needs
 
+list-room-requires : tie.Need-list-room-requires
+list-room-requires c κs = search needs
+
 text-room-requires : tie.Need-text-room-requires
 text-room-requires c κs = search needs
 
@@ -40,6 +43,9 @@ slice-aggregate-compare c = search needs
 
 slice-aggregate-compare-2 : tie.Need-slice-aggregate-compare-2
 slice-aggregate-compare-2 c = search needs
+
+slice-aggregate-compare-3 : tie.Need-slice-aggregate-compare-3
+slice-aggregate-compare-3 c = search needs
 
 compare-requires : tie.Need-compare-requires
 compare-requires c κs = search needs
@@ -77,10 +83,12 @@ compare-file-spec =
     slice-aggregate-fail
     fail-requires
     returns
+    list-room-requires
     text-room-requires
     array-share-prefix-bytes
     slice-aggregate-compare
     slice-aggregate-compare-2
+    slice-aggregate-compare-3
     compare-requires
     array-share-prefix-out
     slice-aggregate-write-all

@@ -9,16 +9,17 @@ use Rattle.trials.proofs.records.walk.Statement.{statement}
 use Rattle.trials.proofs.records.walk.Tie as tie
 
 abbrev Inv-loop : tie.InvT-loop
-Inv-loop bytes out₀ taken₀ sheets₀ refused₀ different₀ end₀ out taken sheets refused different end =
+Inv-loop bytes room₀ out₀ taken₀ sheets₀ refused₀ agree₀ end₀ room out taken sheets refused agree end =
     (taken ≤ length bytes)
     × (sheets ≤ taken)
     × (refused ≤ sheets)
-    × (different ≤ sheets)
+    × (agree ≤ sheets)
     × (end ≤ length out)
     × (length out ≡ length out₀)
+    × (length room ≡ length room₀)
 
 abbrev μ-loop : tie.MeasureT-loop
-μ-loop bytes out₀ taken₀ sheets₀ refused₀ different₀ end₀ out taken sheets refused different end =
+μ-loop bytes room₀ out₀ taken₀ sheets₀ refused₀ agree₀ end₀ room out taken sheets refused agree end =
     length bytes - taken
 
 loop-holds : tie.Need-loop-holds Inv-loop μ-loop
@@ -81,8 +82,8 @@ add-refused c = search needs
 one-requires-2 : tie.Need-one-requires-2 Inv-loop μ-loop
 one-requires-2 c κs = search needs
 
-add-different : tie.Need-add-different Inv-loop μ-loop
-add-different c = search needs
+add-agree : tie.Need-add-agree Inv-loop μ-loop
+add-agree c = search needs
 
 add-sheets : tie.Need-add-sheets Inv-loop μ-loop
 add-sheets c = search needs
@@ -102,11 +103,17 @@ loop-again c = search needs
 same-length : tie.Need-same-length Inv-loop μ-loop
 same-length c = search needs
 
+same-length-2 : tie.Need-same-length-2 Inv-loop μ-loop
+same-length-2 c = search needs
+
 returns : tie.Need-returns Inv-loop μ-loop
 returns c = search needs
 
-same-length-2 : tie.Need-same-length-2 Inv-loop μ-loop
-same-length-2 c = search needs
+same-length-3 : tie.Need-same-length-3 Inv-loop μ-loop
+same-length-3 c = search needs
+
+same-length-4 : tie.Need-same-length-4 Inv-loop μ-loop
+same-length-4 c = search needs
 
 returns-2 : tie.Need-returns-2 Inv-loop μ-loop
 returns-2 c = search needs
@@ -137,13 +144,15 @@ walk-spec =
     one-requires
     add-refused
     one-requires-2
-    add-different
+    add-agree
     add-sheets
     add-taken
     add-taken-2
     loop-less
     loop-again
     same-length
-    returns
     same-length-2
+    returns
+    same-length-3
+    same-length-4
     returns-2)

@@ -1,0 +1,43 @@
+// The library's listing of one sheet, held against the text that is stored with it.
+ghost use mathlib.Core.Path.{_≡_};
+ghost use mathlib.Core.Bool.{true};
+ghost use Prim.Native.Nat.{_≤_};
+ghost use lib.ListN.{length};
+ghost use Rattle.listing.specs.Listing.{listing, listRoom};
+use sheet::Verdict;
+
+// Whether the library refuses the sheet, and whether its listing of it is the stored text.
+pub struct Outcome {
+    pub refused: bool,
+    pub agrees: bool,
+}
+
+// Whether the library refuses the sheet.
+fn refused(sheet: &[u8]) -> bool {
+    match sheet::verdict(sheet) {
+        Verdict::Accepted(_) => false,
+        Verdict::Refused(_, _) => true,
+    }
+}
+
+// Whether the listing of the sheet is the text, byte for byte.
+fn agrees(sheet: &[u8], text: &[u8], room: &mut [u8]) -> bool
+    requires { ⌜ listRoom ≤ length (now room) ⌝ }
+    ensures { λ r. ⌜ (r ≡ true → listing (now (sheet .entry)) ≡ now (text .entry)) ⌝ }
+    ensures { λ r. ⌜ (listing (now (sheet .entry)) ≡ now (text .entry) → r ≡ true) ⌝ }
+{
+    let n = listing::list(sheet, room);
+    check::same(&room[..n], text)
+}
+
+// How the sheet compares with its stored text.
+pub fn compare(sheet: &[u8], text: &[u8], room: &mut [u8]) -> Outcome
+    requires { ⌜ listRoom ≤ length (now room) ⌝ }
+    ensures { λ r. ⌜ (r .agrees ≡ true → listing (now (sheet .entry)) ≡ now (text .entry)) ⌝ }
+    ensures { λ r. ⌜ (listing (now (sheet .entry)) ≡ now (text .entry) → r .agrees ≡ true) ⌝ }
+{
+    Outcome {
+        refused: refused(sheet),
+        agrees: agrees(sheet, text, room),
+    }
+}
