@@ -1,14 +1,14 @@
 -- A ramp made of five numbers is the stretch's, where its loads are the stretch's break loads.
 use Prim.Native.Nat.{ℕ, _+_, _-_, _*_, _≤_}
-use mathlib.Core.Path.{_≡_, refl}
+use mathlib.Core.Path.{_≡_, refl, sym}
 use Rattle.rounding.specs.Load.{Load, breakLoad}
 use Rattle.rounding.specs.Ramp.{reading}
 use Rattle.rounding.specs.Up.{ceilDiv, roundedUp}
-use Rattle.rounding.proofs.Ramps.{reading-most}
+use Rattle.rounding.proofs.Ramps.{reading-start, reading-end, reading-most}
 use native.Mathlib.Nat.{mul-le-mul}
 use native.Mathlib.Omega.{arith}
 use Rattle.standard.specs.Stretch.{noLoad}
-use Rattle.segments.specs.Ramps.{rampOf, RampIn}
+use Rattle.segments.specs.Ramps.{rampOf, RampIn, readRamp}
 use Rattle.segments.specs.declared.ramps.Ramp.{Ramp}
 
 abbrev pub made : ℕ → ℕ → ℕ → ℕ → ℕ → Ramp
@@ -42,3 +42,15 @@ weighed r x h p =
       to = mul-le-mul (h .to) along;
       most = reading-most (r .from) (r .to) (r .full) (omega (arith, h .some, h .inside)) (r .skip + x) 14400000 (omega (arith, h .inside)) (h .from) (h .to);
     }
+
+-- at an end of the uncut ramp its break load is read
+module _ (r : Ramp) (x : ℕ) (h : RampIn r) where
+  pub read-start : r .skip + x ≡ 0 → r .from ≡ readRamp r x
+  unfolding readRamp
+  read-start e = rw e (sym (reading-start (r .from) (r .to) (r .full) (omega (arith, h .some, h .inside))))
+
+  pub read-end : x ≤ r .extent → r .full - (r .skip + x) ≡ 0 → r .to ≡ readRamp r x
+  unfolding readRamp
+  read-end p e =
+      let f : r .skip + x ≡ r .full = omega (arith, h .inside) in
+      rw f (sym (reading-end (r .from) (r .to) (r .full) (omega (arith, h .some, h .inside))))

@@ -45,6 +45,13 @@ pub fn reading_in(ramp: Ramp, x: u64) -> u64
     ensures { λ r. ⌜ (r ≡ readRamp ramp x) × (r ≤ 14400000) ⌝ }
 {
     let along = ramp.skip + x;
+    // At an end of the uncut ramp its break load is read.
+    if along == 0 {
+        return ramp.from;
+    }
     let left = ramp.full - along;
+    if left == 0 {
+        return ramp.to;
+    }
     rounding::ceil_div(ramp.from * left + ramp.to * along, ramp.full)
 }
