@@ -1,46 +1,100 @@
 -- The slopes of a multi-span roof: which end is a valley, and what accepted spans keep.
-use Prim.Native.Nat.{ℕ, _+_, _-_, _*_, _/_, _%_, _<_}
+use Prim.Native.Nat.{ℕ, _+_, _-_, _*_, _/_, _%_, _≤_, _<_}
 use mathlib.Core.Path.{_≡_, refl}
-use mathlib.Core.Bool.{Bool, true, false, _||_}
+use mathlib.Core.Bool.{Bool, true, false, cond, _||_}
 use mathlib.Core.List.{List}
-use borrow.Author.Tests.{eqb-false}
+use borrow.Author.Tests.{eqb-true, eqb-false}
 use lib.Dec.{eqb}
-use native.Mathlib.Nat.{div-lt-iff-lt-mul}
+use native.Mathlib.Nat.{add-comm, div-lt-iff-lt-mul}
 use native.Mathlib.Numerals.{add-one}
 use native.Mathlib.Omega.{arith}
 use Rattle.figures.specs.Bounds.{SlopeIn, MultiSpanIn}
 use Rattle.figures.specs.RoofRules.{spanAt}
+use Rattle.figures.specs.declared.roof.Slope.{Slope}
 use Rattle.figures.specs.declared.roof.Span.{Span}
 use Rattle.rounding.specs.Load.{breakLoad}
 use Rattle.standard.proofs.MultiSpan.{slope-in}
-use Rattle.standard.specs.MultiSpan.{slopeOf, ownLoad, valleyLoad, multiSpanFrom, multiSpanTo, widths}
+use Rattle.standard.specs.Coefficients.{mu1, valleyMu}
+use Rattle.standard.specs.MultiSpan.{slopeOf, ownLoad, valleyLoad, multiSpanFrom, multiSpanTo, multiSpan, widths}
+use Rattle.standard.specs.Stretch.{loadAlone}
+use Rattle.segments.specs.Ramps.{rampOf, RampIn}
+use Rattle.segments.proofs.Stretches.{made, made-is, made-in}
 
--- neither of three tests held
-neither : (a b c : Bool) → (a || b || c) ≡ false → (b ≡ false) × (c ≡ false)
-neither true b c h = let z : _≡_ {A = ℕ} 0 1 = cc in absurd (omega arith)
-neither false true c h = let z : _≡_ {A = ℕ} 0 1 = cc in absurd (omega arith)
-neither false false c h = (refl, h)
+-- none of three tests held
+none : (a b c : Bool) → (a || b || c) ≡ false → (a ≡ false) × (b ≡ false) × (c ≡ false)
+none true b c h = let z : _≡_ {A = ℕ} 0 1 = cc in absurd (omega arith)
+none false true c h = let z : _≡_ {A = ℕ} 0 1 = cc in absurd (omega arith)
+none false false c h = (refl, refl, h)
 
-pub not-this : (a c : Bool) (m n : ℕ) → (a || eqb m n || c) ≡ false → m ≡ n → ⊥
-not-this a c m n h = eqb-false m n (neither a (eqb m n) c h .0)
+-- a slope of the roof and its own load
+pub record Own (factor sk : ℕ) (l : List Span) (i : ℕ) (s : Slope) (x : ℕ) : Type 0 where
+  pub slope : s ≡ slopeOf l i
+  pub within : SlopeIn s
+  pub load : x ≡ breakLoad 1 (loadAlone (mu1 (s .pitch)) factor sk)
+  pub most : x ≤ 7200000
 
-module _ (factor sk : ℕ) (l : List Span) (undrifted : Bool) (i x : ℕ) where
-  pub from-own : (undrifted || eqb i 0 || eqb (i % 2) 1) ≡ true → x ≡ breakLoad 1 (ownLoad factor sk l i) → x ≡ breakLoad 1 (multiSpanFrom factor sk l undrifted i)
-  unfolding multiSpanFrom
-  from-own e h = rw e h
+module _ (undrifted : Bool) (i count : ℕ) where
+  -- the first and the last slope, and every one in code 1
+  abbrev pub level : Bool
+  level = undrifted || eqb i 0 || eqb (i + 1) (2 * count)
 
-  pub from-valley : (undrifted || eqb i 0 || eqb (i % 2) 1) ≡ false → x ≡ breakLoad 1 (valleyLoad factor sk l (i - 1)) → x ≡ breakLoad 1 (multiSpanFrom factor sk l undrifted i)
-  unfolding multiSpanFrom
-  from-valley e h = rw e h
+  -- a level slope has a valley at neither end
+  no-valley :
+      (u a b : Bool) → eqb i 0 ≡ a → eqb (i + 1) (2 * count) ≡ b → (u || a || b) ≡ true
+      → ((u || a || eqb (i % 2) 1) ≡ true) × ((u || b || eqb (i % 2) 0) ≡ true)
+  no-valley true a b p q r = (refl, refl)
+  no-valley false true true p q r = (refl, refl)
+  no-valley false true false p q r = let e : i % 2 ≡ 0 = omega (arith, eqb-true i 0 p) in (refl, rw e)
+  no-valley false false true p q r = let e : i % 2 ≡ 1 = omega (arith, eqb-true (i + 1) (2 * count) q) in (rw e, refl)
+  no-valley false false false p q r = let z : _≡_ {A = ℕ} 0 1 = cc in absurd (omega arith)
 
-  module _ (count : ℕ) where
-    pub to-own : (undrifted || eqb (i + 1) (2 * count) || eqb (i % 2) 0) ≡ true → x ≡ breakLoad 1 (ownLoad factor sk l i) → x ≡ breakLoad 1 (multiSpanTo factor sk l count undrifted i)
-    unfolding multiSpanTo
-    to-own e h = rw e h
+  pub inner : level ≡ false → (0 < i) × (i + 1 ≡ 2 * count → ⊥)
+  inner h =
+      let n = none undrifted (eqb i 0) (eqb (i + 1) (2 * count)) h in
+      (omega (arith, eqb-false i 0 (n .1)), eqb-false (i + 1) (2 * count) (n .2))
 
-    pub to-valley : (undrifted || eqb (i + 1) (2 * count) || eqb (i % 2) 0) ≡ false → x ≡ breakLoad 1 (valleyLoad factor sk l i) → x ≡ breakLoad 1 (multiSpanTo factor sk l count undrifted i)
-    unfolding multiSpanTo
-    to-valley e h = rw e h
+  module _ (factor sk : ℕ) (l : List Span) (s : Slope) (x : ℕ) (own : Own factor sk l i s x) where
+    abbrev Made : ℕ → ℕ → Type 0
+    Made from to =
+        (made (4 * s .width) 0 (4 * s .width) from to ≡ rampOf (multiSpan factor sk l count undrifted i))
+        × RampIn (made (4 * s .width) 0 (4 * s .width) from to)
+
+    between :
+        (from to : ℕ) → from ≡ breakLoad 1 (multiSpanFrom factor sk l undrifted i) → to ≡ breakLoad 1 (multiSpanTo factor sk l count undrifted i)
+        → from ≤ 7200000 → to ≤ 7200000 → Made from to
+    unfolding multiSpan
+    between from to p q a b =
+        let w = own .within .width in
+        (rw (← own .slope) (made-is _ _ _ _ _ _ _ p q), made-in _ _ _ _ _ (omega (arith, w .low)) (omega arith) (omega (arith, w .high)) (omega arith) (omega arith))
+
+    own-is : x ≡ breakLoad 1 (ownLoad factor sk l i)
+    unfolding ownLoad
+    own-is = rw (← own .slope) (own .load)
+
+    pub level-ramp : level ≡ true → Made x x
+    unfolding multiSpanFrom multiSpanTo
+    level-ramp h =
+        let t = no-valley undrifted (eqb i 0) (eqb (i + 1) (2 * count)) refl refl h in
+        between x x (rw (t .0) own-is) (rw (t .1) own-is) (own .most) (own .most)
+
+    -- with the slope across the valley, and the valley's load
+    module _ (j : ℕ) (o : Slope) (y : ℕ) (ej : j ≡ cond (eqb (i % 2) 0) (i - 1) (i + 1)) (eo : o ≡ slopeOf l j)
+        (ey : y ≡ breakLoad 1 (loadAlone (valleyMu (s .pitch) (o .pitch)) factor sk)) (most : y ≤ 7200000) (h : level ≡ false) where
+      pub left-ramp : i % 2 ≡ 0 → Made y x
+      unfolding multiSpanFrom multiSpanTo valleyLoad
+      left-ramp p =
+          let n = none undrifted (eqb i 0) (eqb (i + 1) (2 * count)) h in
+          let e : i - 1 + 1 ≡ i = omega (arith, inner h .0) in
+          let f : j ≡ i - 1 = rw p at ej in
+          let c = add-comm (o .pitch) (s .pitch) in
+          between y x (rw (n .0, n .1, p, e, ← f, ← own .slope, ← eo, c) ey) (rw (n .0, n .2, p) own-is) most (own .most)
+
+      pub right-ramp : i % 2 ≡ 1 → Made x y
+      unfolding multiSpanFrom multiSpanTo valleyLoad
+      right-ramp p =
+          let n = none undrifted (eqb i 0) (eqb (i + 1) (2 * count)) h in
+          let f : j ≡ i + 1 = rw p at ej in
+          between x y (rw (n .0, n .1, p) own-is) (rw (n .0, n .2, p, ← f, ← own .slope, ← eo) ey) (own .most) most
 
 pub slopes-in : (n : ℕ) (l : List Span) → MultiSpanIn n l → (i : ℕ) → i < 2 * n → SlopeIn (slopeOf l i)
 slopes-in n l h i lt = slope-in l i (h .spans (i / 2) ((div-lt-iff-lt-mul (omega arith)) .1 (omega arith)))

@@ -1,66 +1,35 @@
 // Kind 4, a multi-span roof (5.3.4).
+ghost use mathlib.Core.Bool.{cond};
 ghost use mathlib.Core.Path.{_≡_};
-ghost use Prim.Native.Nat.{_*_, _+_, _-_, _≤_, _<_};
+ghost use lib.Dec.{eqb};
+ghost use Prim.Native.Nat.{_*_, _+_, _-_, _%_, _≤_, _<_};
 ghost use Rattle.figures.specs.Bounds.{SlopeIn};
 ghost use Rattle.loads.specs.Sizes.{Ground};
-ghost use Rattle.rounding.specs.Load.{breakLoad};
 ghost use Rattle.segments.specs.Ramps.{rampOf, RampIn};
-ghost use Rattle.standard.specs.MultiSpan.{slopeOf, ownLoad, valleyLoad, multiSpanFrom, multiSpanTo, multiSpan, widths};
+ghost use Rattle.standard.specs.MultiSpan.{slopeOf, multiSpan, widths};
 use crate::ramps::Ramp;
+use crate::ramps::even;
+use crate::ramps::whole;
 use figures::Slope;
 use figures::Span;
 
-// Slope i from the left.
-fn slope_at(spans: [Span; 16], i: usize) -> Slope
-    requires { ⌜ i < 32 ⌝ }
-    ensures { λ r. ⌜ r ≡ slopeOf spans i ⌝ }
+// Slope i from the left, of the span that it is in.
+fn slope_in(span: Span, i: usize) -> Slope
+    ensures { λ r. ⌜ r ≡ cond (eqb (i % 2) 0) (span .left) (span .right) ⌝ }
 {
-    let span = spans[i / 2];
     if i % 2 == 0 { span.left } else { span.right }
 }
 
-// The load of slope i's own pitch.
-fn own_load(spans: [Span; 16], factor: u64, sk: u64, i: usize) -> u64
-    requires { ⌜ Ground factor sk × (i < 32) ⌝ }
-    ensures { λ r. ⌜ (r ≡ breakLoad 1 (ownLoad factor sk spans i)) × (r ≤ 7200000) ⌝ }
+// The slope across slope i's valley: the one before a left slope, the one after a right slope.
+fn across(i: usize) -> usize
+    requires { ⌜ (0 < i) × (i < 32) ⌝ }
+    ensures { λ r. ⌜ (r ≡ cond (eqb (i % 2) 0) (i - 1) (i + 1)) × (r ≤ i + 1) ⌝ }
 {
-    let slope = slope_at(spans, i);
-    loads::slope_load(slope, 0, false, factor, sk)
+    if i % 2 == 0 { i - 1 } else { i + 1 }
 }
 
-// The load at the valley between slope i and the next.
-fn valley_at(spans: [Span; 16], factor: u64, sk: u64, i: usize) -> u64
-    requires { ⌜ Ground factor sk × (i < 31) ⌝ }
-    ensures { λ r. ⌜ (r ≡ breakLoad 1 (valleyLoad factor sk spans i)) × (r ≤ 7200000) ⌝ }
-{
-    let left = slope_at(spans, i);
-    let right = slope_at(spans, i + 1);
-    loads::valley_load(left.pitch, right.pitch, factor, sk)
-}
-
-// The load at slope i's left end: the valley's for a left slope but the first.
-fn from_load(spans: [Span; 16], undrifted: bool, factor: u64, sk: u64, i: usize) -> u64
-    requires { ⌜ Ground factor sk × (i < 32) ⌝ }
-    ensures { λ r. ⌜ (r ≡ breakLoad 1 (multiSpanFrom factor sk spans undrifted i)) × (r ≤ 7200000) ⌝ }
-{
-    if undrifted | (i == 0) | (i % 2 == 1) {
-        return own_load(spans, factor, sk, i);
-    }
-    valley_at(spans, factor, sk, i - 1)
-}
-
-// The load at slope i's right end: the valley's for a right slope but the last.
-fn to_load(spans: [Span; 16], count: usize, undrifted: bool, factor: u64, sk: u64, i: usize) -> u64
-    requires { ⌜ Ground factor sk × (count ≤ 16) × (i < 2 * count) ⌝ }
-    ensures { λ r. ⌜ (r ≡ breakLoad 1 (multiSpanTo factor sk spans count undrifted i)) × (r ≤ 7200000) ⌝ }
-{
-    if undrifted | (i + 1 == 2 * count) | (i % 2 == 0) {
-        return own_load(spans, factor, sk, i);
-    }
-    valley_at(spans, factor, sk, i)
-}
-
-// The stretch at an index: one slope.
+// The stretch at an index: one slope. But for the first and the last, a left slope has its valley at its left end, a right
+// slope at its right end.
 pub fn multi_span_ramp(
     spans: [Span; 16],
     count: usize,
@@ -72,17 +41,21 @@ pub fn multi_span_ramp(
     requires { ⌜ Ground factor sk × (count ≤ 16) × (i < 2 * count) × SlopeIn (slopeOf spans i) ⌝ }
     ensures { λ r. ⌜ (r ≡ rampOf (multiSpan factor sk spans count undrifted i)) × RampIn r ⌝ }
 {
-    let slope = slope_at(spans, i);
-    let from = from_load(spans, undrifted, factor, sk, i);
-    let to = to_load(spans, count, undrifted, factor, sk, i);
+    let span = spans[i / 2];
+    let slope = slope_in(span, i);
     let extent = 4 * (slope.width as u64);
-    Ramp {
-        extent: extent,
-        skip: 0,
-        full: extent,
-        from: from,
-        to: to,
+    let own = loads::slope_load(slope, 0, false, factor, sk);
+    if undrifted | (i == 0) | (i + 1 == 2 * count) {
+        return even(extent, own);
     }
+    let j = across(i);
+    let beyond = spans[j / 2];
+    let other = slope_in(beyond, j);
+    let valley = loads::valley_load(slope.pitch, other.pitch, factor, sk);
+    if i % 2 == 0 {
+        return whole(extent, valley, own);
+    }
+    whole(extent, own, valley)
 }
 
 // The widths of the first count spans together.
