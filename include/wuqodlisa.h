@@ -14,12 +14,20 @@
 extern "C" {
 #endif
 
-/* A refusal is 0x80000000 + 256 * number + item; an item above 255 shows as 255. A count is at most 32, a load at most
- * 14,400,000 and a force at most 2,400,000, so no other answer but SNOW_NONE reaches 0x80000000. */
+/* A refusal is 0x80000000 + 65,536 * number + item; an index above 65,535 shows as 65,535. A count is at most 32, a load
+ * at most 14,400,000 and a force at most 2,400,000, so no other answer but SNOW_NONE reaches 0x80000000. */
 #define SNOW_REFUSED 0x80000000u
 
-/* The answer where there is no such force. No refusal has this value: its number would be above 13. */
+/* The answer where there is no such force. No refusal has this value: numbers are below 32, and its number would be
+ * 32,767. */
 #define SNOW_NONE 0xFFFFFFFFu
+
+/* Whether an answer is a refusal: 0x80000000 or more, and not SNOW_NONE. */
+#define SNOW_IS_REFUSAL(answer) ((uint32_t)(answer) - SNOW_REFUSED < SNOW_NONE - SNOW_REFUSED)
+
+/* The number of a refusal and the item that it names. */
+#define SNOW_NUMBER(refusal) (((uint32_t)(refusal) - SNOW_REFUSED) / 65536u)
+#define SNOW_ITEM(refusal) ((uint32_t)(refusal) % 65536u)
 
 /* A number of bytes that holds the listing of any sheet. */
 #define SNOW_LIST_ROOM 275557

@@ -5,7 +5,7 @@ use crate::forces;
 use crate::listing;
 use crate::sheet::{number, Item, Items, Refusal, Roof, Site, Slope};
 
-/// A refusal is this plus 256 × number plus the item.
+/// A refusal is this plus 65,536 × number plus the item; an index above 65,535 shows as 65,535.
 pub const REFUSED: u32 = 0x8000_0000;
 /// The answer where there is no such force.
 pub const NONE: u32 = u32::MAX;
@@ -51,10 +51,15 @@ pub fn list(sheet: &[u8], out: &mut [u8]) -> usize {
     text.len()
 }
 
+/// The number of a refusal and the item that it names.
+pub fn refusal_parts(code: u32) -> (u32, u32) {
+    ((code - REFUSED) / 65_536, code % 65_536)
+}
+
 fn answer(result: Result<u32, Refusal>) -> u32 {
     result.unwrap_or_else(|refusal| {
-        let item = refusal.item.min(255) as u32;
-        REFUSED + 256 * u32::from(refusal.number) + item
+        let item = refusal.item.min(65_535) as u32;
+        REFUSED + 65_536 * u32::from(refusal.number) + item
     })
 }
 
@@ -119,4 +124,42 @@ fn force(
         .and_then(|roof| forces::slope(&roof, slope))
         .and_then(|slope| rule(&site, slope));
     Ok(force.unwrap_or(NONE))
+}
+
+#[cfg(test)]
+mod tests {
+    use super::*;
+
+    /// A site alone.
+    const SHEET: [u8; 20] = [
+        1, 0, 6, 0, 14, 0, 1, 0xE8, 3, 0, 0, 100, 0, 100, 0, 200, 0, 0, 0xF4, 1,
+    ];
+
+    #[test]
+    fn an_index_comes_back_whole_up_to_65_535() {
+        let codes = [
+            (1, 0x800C_0001),
+            (255, 0x800C_00FF),
+            (256, 0x800C_0100),
+            (65_534, 0x800C_FFFE),
+            (65_535, 0x800C_FFFF),
+            (65_536, 0x800C_FFFF),
+            (1 << 32, 0x800C_FFFF),
+            (usize::MAX, 0x800C_FFFF),
+        ];
+        for (index, code) in codes {
+            assert_eq!(load(&SHEET, index, 1, 0), code, "index {index}");
+            assert_eq!(make(&SHEET, index, 1, &mut []), code, "index {index}");
+            assert_eq!(overhang(&SHEET, index, 1), code, "index {index}");
+            assert_eq!(guard_force(&SHEET, index, 1), code, "index {index}");
+        }
+    }
+
+    #[test]
+    fn a_refusal_has_its_number_above_the_item() {
+        assert_eq!(verdict(&SHEET), 1);
+        assert_eq!(verdict(&[]), 0x8001_0000);
+        assert_eq!(load(&SHEET, 0, 1, 0), 0x800D_0000);
+        assert_eq!(refusal_parts(0x800C_FFFE), (12, 65_534));
+    }
 }

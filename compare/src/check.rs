@@ -133,6 +133,7 @@ impl Checker {
         let [ours, theirs] = answers;
         self.tally.call(call);
         self.tally.answer(ours, item < asked.count);
+        self.tally.index(item, ours);
         if ours != theirs {
             self.tally.disagree(asked.sheet, || {
                 format!(
@@ -154,7 +155,8 @@ fn show(answer: u32) -> String {
     if answer == calls::NONE {
         "none".to_string()
     } else if answer >= calls::REFUSED {
-        format!("refused {} item {}", answer >> 8 & 0x7F_FFFF, answer & 0xFF)
+        let (number, item) = calls::refusal_parts(answer);
+        format!("refused {number} item {item}")
     } else {
         answer.to_string()
     }

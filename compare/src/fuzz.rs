@@ -8,7 +8,7 @@ use crate::check::{Asked, Checker, MAX_LIST_ROOM};
 use crate::damage;
 use crate::draft;
 use crate::random::Random;
-use crate::tally::LENGTHS;
+use crate::tally::{LENGTHS, MISSING};
 
 /// Items of one sheet that are asked about closely.
 const CLOSE: usize = 3;
@@ -103,11 +103,10 @@ impl Fuzz {
 
     /// All calls on the site, on an index that is not there, and on a refused sheet.
     fn index_questions(&mut self, asked: Asked) {
-        let far = self
-            .random
-            .pick(&[255, 256, 257, 65_536, 1 << 32, usize::MAX]);
         let some = self.random.below(40);
-        for item in [0, asked.count, asked.count + 1, far, some] {
+        let missing = self.random.pick(&MISSING);
+        let any = self.random.next() as usize >> self.random.below(64);
+        for item in [0, asked.count, asked.count + 1, some, missing, any] {
             let code = self.random.pick(&CODES);
             let slope = self.random.pick(&SLOPES);
             let room = self.next_length();

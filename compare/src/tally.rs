@@ -1,11 +1,28 @@
 //! Counts of comparisons and answers, and the disagreements.
 
-use second::calls::{NONE, REFUSED};
+use second::calls::{refusal_parts, NONE, REFUSED};
 
 /// The six calls, in the order of the header.
 pub const CALLS: [&str; 6] = ["verdict", "make", "load", "overhang", "guard_force", "list"];
 /// Lengths of slices that every run goes through.
 pub const LENGTHS: usize = 141;
+/// Indexes that no sheet has and every run asks for: those at the ends of 8, 16, 31, 32 and 64 bits.
+pub const MISSING: [usize; 14] = [
+    254,
+    255,
+    256,
+    257,
+    65_533,
+    65_534,
+    65_535,
+    65_536,
+    65_537,
+    0x7FFF_FFFF,
+    0x8000_0000,
+    0xFFFF_FFFF,
+    1 << 32,
+    usize::MAX,
+];
 /// Disagreements that are written out.
 const SHOWN: u64 = 5;
 
@@ -31,6 +48,8 @@ pub struct Tally {
     past_roof: u64,
     /// How often a slice of each length was lent, and how often it was enough.
     lengths: [(u64, u64); LENGTHS],
+    /// How often each missing index was refused by 12.
+    missing: [u64; MISSING.len()],
     disagreements: u64,
 }
 
@@ -45,6 +64,7 @@ impl Tally {
             refused: [0; 14],
             past_roof: 0,
             lengths: [(0, 0); LENGTHS],
+            missing: [0; MISSING.len()],
             disagreements: 0,
         }
     }
@@ -59,11 +79,10 @@ impl Tally {
             self.none += 1;
         } else if answer < REFUSED {
             self.answered += 1;
-        } else if answer >> 8 & 0xFF == 12 && index_exists {
+        } else if number_of(answer) == 12 && index_exists {
             self.past_roof += 1;
         } else {
-            let number = (answer >> 8 & 0xFF) as usize;
-            self.refused[number.min(13)] += 1;
+            self.refused[number_of(answer).min(13)] += 1;
         }
     }
 
@@ -71,6 +90,12 @@ impl Tally {
         if let Some(entry) = self.lengths.get_mut(room) {
             entry.0 += 1;
             entry.1 += u64::from(answer < REFUSED);
+        }
+    }
+
+    pub fn index(&mut self, item: usize, answer: u32) {
+        if let Some(place) = MISSING.iter().position(|&index| index == item) {
+            self.missing[place] += u64::from(number_of(answer) == 12);
         }
     }
 
@@ -91,12 +116,13 @@ impl Tally {
         self.calls.iter().sum()
     }
 
-    /// No disagreement, and every refusal and every slice length was met.
+    /// No disagreement, and every refusal, every slice length and every missing index was met.
     pub fn is_good(&self) -> bool {
         self.agrees()
             && self.refused[1..].iter().all(|&count| count > 0)
             && self.past_roof > 0
             && self.lengths.iter().all(|entry| entry.0 > 0)
+            && self.missing.iter().all(|&count| count > 0)
     }
 
     pub fn print(&self) {
@@ -119,6 +145,7 @@ impl Tally {
         println!("  12 station {}", self.past_roof);
         println!("  13 {}", self.refused[13]);
         self.print_lengths();
+        self.print_missing();
         println!("DISAGREEMENTS {}", self.disagreements);
     }
 
@@ -130,5 +157,25 @@ impl Tally {
             LENGTHS - 1,
             rarest.unwrap_or(0)
         );
+    }
+
+    fn print_missing(&self) {
+        let rarest = self.missing.iter().min();
+        println!(
+            "INDEXES of {} to {}, {} in all, each refused by 12 at least {} times",
+            MISSING[0],
+            MISSING[MISSING.len() - 1],
+            MISSING.len(),
+            rarest.unwrap_or(&0)
+        );
+    }
+}
+
+/// The number of a refusal, 0 for any other answer.
+fn number_of(answer: u32) -> usize {
+    if (REFUSED..NONE).contains(&answer) {
+        refusal_parts(answer).0 as usize
+    } else {
+        0
     }
 }

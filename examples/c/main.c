@@ -20,6 +20,7 @@ struct sheet {
 struct refusal { uint32_t number, item; };
 
 static const uint8_t codes[] = {1, 2, 3, 11, 12, 13};
+static const size_t missing[] = {255, 256, 65534, 65535, 65536, SIZE_MAX}; /* no sheet has such an item */
 static unsigned checks, failures;
 
 static void check(bool holds, const char *what, size_t item)
@@ -33,15 +34,21 @@ static void check(bool holds, const char *what, size_t item)
 /* Takes a refusal apart. The number is 0 for a count, a load, a force and SNOW_NONE, which are none. */
 static struct refusal decode(uint32_t answer)
 {
-    if (answer == SNOW_NONE || answer < SNOW_REFUSED)
+    if (!SNOW_IS_REFUSAL(answer))
         return (struct refusal){0, 0};
-    return (struct refusal){(answer - SNOW_REFUSED) / 256, (answer - SNOW_REFUSED) % 256};
+    return (struct refusal){SNOW_NUMBER(answer), SNOW_ITEM(answer)};
+}
+
+/* The item that a refusal names: an index above 65,535 shows as 65,535. */
+static uint32_t shown(size_t item)
+{
+    return item < 65535 ? (uint32_t)item : 65535;
 }
 
 static bool refused_with(uint32_t answer, uint32_t number, size_t item)
 {
     struct refusal why = decode(answer);
-    return why.number == number && why.item == (item < 255 ? item : 255);
+    return why.number == number && why.item == shown(item);
 }
 
 static void print_answer(uint32_t answer, const char *unit)
@@ -150,6 +157,14 @@ static void check_refused(const struct sheet *sheet, size_t item, uint32_t refus
     check(overhang == refusal && guard == refusal, "a force is refused otherwise", item);
 }
 
+/* An index that the sheet has no item for is refused by 12. */
+static void ask_missing(const struct sheet *sheet, size_t item)
+{
+    printf("INDEX %zu: ", item);
+    print_answer(snow_load(sheet->bytes, sheet->length, item, 1, 0), "N/m2");
+    check_refused(sheet, item, SNOW_REFUSED + 65536 * 12 + shown(item));
+}
+
 /* Prints the listing; the count of its lines. One byte of room too little alters nothing. */
 static size_t list(const struct sheet *sheet)
 {
@@ -175,7 +190,9 @@ static void ask(const struct sheet *sheet)
     } else {
         for (size_t item = 1; item < count; item++)
             lines += ask_roof(sheet, item);
-        check_refused(sheet, count, SNOW_REFUSED + 256 * 12 + count);
+        ask_missing(sheet, count);
+        for (size_t i = 0; i < sizeof missing / sizeof *missing; i++)
+            ask_missing(sheet, missing[i]);
     }
     check(list(sheet) == lines, "the listing has other lines", 0);
     printf("CHECKS: %u\n", checks);

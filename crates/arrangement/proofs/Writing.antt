@@ -48,7 +48,3 @@ module _ (S : ℕ → Stretch) where
     pub segment-is : (a b : ℕ) → a ≡ readRamp r 0 → b ≡ readRamp r (r .extent) → start ∷ (start + r .extent) ∷ a ∷ b ∷ [] ≡ segment S i
     unfolding segment readIn readRamp rampOf
     segment-is a b p q = rw (p, q, es, er)
-
-    pub next-start : start + r .extent ≡ startOf S (suc i)
-    unfolding startOf rampOf
-    next-start = rw (es, er)

@@ -4,14 +4,15 @@ ghost use mathlib.Core.Path.{_≡_};
 ghost use lib.ListN.{length, take, drop};
 ghost use Prim.Native.Nat.{suc, _+_, _*_, _≤_, _<_};
 ghost use Rattle.arrangement.specs.Arrangement.{madeMeans, madeCount, contents, numbers};
-ghost use Rattle.figures.specs.Bounds.{ShapeIn};
-ghost use Rattle.loads.specs.Sizes.{Ground};
-ghost use Rattle.standard.specs.Answers.{makeAnswer};
-ghost use Rattle.standard.specs.Arrangements.{countIn, stretchIn};
-ghost use Rattle.standard.specs.Bounds.{NationalIn};
+ghost use Rattle.figures.specs.RoofRules.{roofOf};
+ghost use Rattle.standard.specs.Answers.{roomAnswer, makeAnswer};
+ghost use Rattle.standard.specs.Arrangements.{count, stretch};
+ghost use Rattle.standard.specs.Bounds.{FiguresIn};
 ghost use Rattle.standard.specs.Coefficients.{recommendedFigures};
 ghost use Rattle.standard.specs.Stretch.{startOf, segment, segments};
 use figures::Roof;
+use figures::SLOPE_NUMBERS;
+use figures::Shape;
 use figures::Site;
 use standard::National;
 
@@ -35,17 +36,17 @@ pub struct Segment {
 // The segment at an index, which starts where the one before ends.
 fn segment_at(
     national: National,
-    roof: Roof,
+    site: Site,
+    shape: Shape,
+    slopes: &[u32; SLOPE_NUMBERS],
     code: u8,
-    factor: u64,
-    sk: u64,
     i: usize,
     start: u32,
 ) -> Segment
-    requires { ⌜ NationalIn national × ShapeIn (roof .shape) (roof .spans) × Ground factor sk × (i < countIn national (roof .shape) code) × (start ≡ startOf (stretchIn national (roof .shape) (roof .spans) factor sk code) i) × (start ≤ 12400000) ⌝ }
-    ensures { λ r. ⌜ (numbers r ≡ segment (stretchIn national (roof .shape) (roof .spans) factor sk code) i) × (r .end ≡ startOf (stretchIn national (roof .shape) (roof .spans) factor sk code) (suc i)) × (r .end ≤ start + 400000) ⌝ }
+    requires { ⌜ FiguresIn national site (roofOf shape (now slopes)) × (i < count national (roofOf shape (now slopes)) code) × (start ≡ startOf (stretch national site (roofOf shape (now slopes)) code) i) ⌝ }
+    ensures { λ r. ⌜ (numbers r ≡ segment (stretch national site (roofOf shape (now (slopes .entry))) code) i) × (r .end ≡ startOf (stretch national site (roofOf shape (now (slopes .entry))) code) (suc i)) ⌝ }
 {
-    let ramp = segments::ramp_at(national, roof, code, factor, sk, i);
+    let ramp = segments::ramp_at(national, site, shape, slopes, code, i);
     let from = segments::reading_in(ramp, 0);
     let to = segments::reading_in(ramp, ramp.extent);
     Segment {
@@ -67,19 +68,45 @@ fn put(out: &mut [u32], at: usize, segment: Segment)
     out[at + 3] = segment.to;
 }
 
-// Writes the n segments, one after the other.
-fn write(national: National, roof: Roof, code: u8, factor: u64, sk: u64, n: usize, out: &mut [u32])
-    requires { ⌜ NationalIn national × ShapeIn (roof .shape) (roof .spans) × Ground factor sk × (n ≡ countIn national (roof .shape) code) × (n ≤ 32) × (4 * n ≤ length (now out)) ⌝ }
-    ensures { λ _. ⌜ now (out .exit) ≡ segments (stretchIn national (roof .shape) (roof .spans) factor sk code) n ++ drop (4 * n) (now (out .entry)) ⌝ }
+// Writes the n segments of an arrangement of accepted figures at the front of the slice, one after the other.
+pub fn write(
+    national: National,
+    site: Site,
+    shape: Shape,
+    slopes: &[u32; SLOPE_NUMBERS],
+    code: u8,
+    n: usize,
+    out: &mut [u32],
+)
+    requires { ⌜ FiguresIn national site (roofOf shape (now slopes)) × (n ≡ count national (roofOf shape (now slopes)) code) × (4 * n ≤ length (now out)) ⌝ }
+    ensures { λ _. ⌜ now (out .exit) ≡ segments (stretch national site (roofOf shape (now (slopes .entry))) code) n ++ drop (4 * n) (now (out .entry)) ⌝ }
 {
     let mut start: u32 = 0;
     let mut i = 0;
     while i < n {
-        let segment = segment_at(national, roof, code, factor, sk, i, start);
+        let segment = segment_at(national, site, shape, slopes, code, i, start);
         put(out, 4 * i, segment);
         start = segment.end;
         i += 1;
     }
+}
+
+// The arrangement of a code of accepted figures, where the slice has room for it.
+fn make_accepted(site: Site, roof: Roof, code: u8, out: &mut [u32]) -> Made
+    requires { ⌜ FiguresIn recommendedFigures site roof ⌝ }
+    ensures answer { λ r. ⌜ madeMeans r ≡ roomAnswer recommendedFigures roof code (length (now (out .entry))) ⌝ }
+    ensures written { λ r. ⌜ now (out .exit) ≡ contents recommendedFigures site roof code r (now (out .entry)) ⌝ }
+    ensures few { λ r. ⌜ madeCount r ≤ 32 ⌝ }
+{
+    let national = standard::recommended();
+    let shape = roof.shape;
+    let slopes = roof.slopes;
+    let n = segments::count(national, site, shape, &slopes, code);
+    if out.len() < 4 * n {
+        return Made::Refused(SLICE);
+    }
+    write(national, site, shape, &slopes, code, n, out);
+    Made::Segments(n)
 }
 
 // Makes the arrangement of a code: its segments at the front of the slice, four numbers each. A refusal alters nothing.
@@ -88,24 +115,9 @@ pub fn make(site: Site, roof: Roof, code: u8, out: &mut [u32]) -> Made
     ensures written { λ r. ⌜ now (out .exit) ≡ contents recommendedFigures site roof code r (now (out .entry)) ⌝ }
     ensures few { λ r. ⌜ madeCount r ≤ 32 ⌝ }
 {
-    let number = segments::refusal(site, roof, code);
+    let number = codes::refusal(site, roof, code);
     if number != 0 {
         return Made::Refused(number);
     }
-    let national = standard::recommended();
-    let base = segments::base_code(code);
-    let n = segments::count(national, roof, base);
-    if out.len() < 4 * n {
-        return Made::Refused(SLICE);
-    }
-    write(
-        national,
-        roof,
-        base,
-        segments::factor(site, code),
-        site.sk as u64,
-        n,
-        out,
-    );
-    Made::Segments(n)
+    make_accepted(site, roof, code, out)
 }

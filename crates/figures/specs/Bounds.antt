@@ -1,10 +1,9 @@
 -- The bounds that accepted figures keep. The lemmas that give them are `site-in` and `roof-in` of proofs/Accepted.
-use Prim.Native.Nat.{ℕ, suc, _+_, _*_, _≤_, _<_}
+use Prim.Native.Nat.{ℕ, _*_, _≤_, _<_}
 use mathlib.Core.List.{List}
-use Rattle.figures.specs.RoofRules.{spanAt}
+use Rattle.figures.specs.RoofRules.{slopeOf}
 use Rattle.figures.specs.declared.site.Site.{Site}
 use Rattle.figures.specs.declared.roof.Slope.{Slope}
-use Rattle.figures.specs.declared.roof.Span.{Span}
 use Rattle.figures.specs.declared.roof.Shape.{Shape}
 use Rattle.figures.specs.declared.roof.Shape.the-variants.{Monopitch, Pitched, MultiSpan, Cylindrical, Abutting, Projection}
 
@@ -24,16 +23,6 @@ pub record SlopeIn (s : Slope) : Type 0 where
   pub pitch : s .pitch ≤ 800
   pub width : Within 1 100000 (s .width)
 
-pub record SpanIn (s : Span) : Type 0 where
-  pub left : SlopeIn (s .left)
-  pub right : SlopeIn (s .right)
-
--- the pitches of a valley's two slopes: neither above 60.0°, and not both 60.0°
-pub record ValleyIn (p q : ℕ) : Type 0 where
-  pub left : p ≤ 600
-  pub right : q ≤ 600
-  pub mean : p + q < 1200
-
 pub record MonopitchIn (s : Slope) (g : ℕ) : Type 0 where
   pub slope : SlopeIn s
   pub guard : g ≤ 1
@@ -44,10 +33,9 @@ pub record PitchedIn (s t : Slope) (g k : ℕ) : Type 0 where
   pub left-guard : g ≤ 1
   pub right-guard : k ≤ 1
 
-pub record MultiSpanIn (n : ℕ) (l : List Span) : Type 0 where
+pub record MultiSpanIn (n : ℕ) (l : List ℕ) : Type 0 where
   pub count : Within 2 16 n
-  pub spans : (i : ℕ) → i < n → SpanIn (spanAt l i)
-  pub valleys : (i : ℕ) → suc i < n → ValleyIn (spanAt l i .right .pitch) (spanAt l (suc i) .left .pitch)
+  pub slopes : (i : ℕ) → i < 2 * n → SlopeIn (slopeOf l i)
 
 pub record CylindricalIn (r s : ℕ) : Type 0 where
   pub rise : Within 1 15000 r
@@ -66,10 +54,10 @@ pub record ProjectionIn (h a b : ℕ) : Type 0 where
   pub left : Within 1 100000 a
   pub right : Within 1 100000 b
 
-abbrev pub ShapeIn : Shape → List Span → Type 0
-ShapeIn (Monopitch slope guard) spans = MonopitchIn slope guard
-ShapeIn (Pitched left right leftGuard rightGuard) spans = PitchedIn left right leftGuard rightGuard
-ShapeIn (MultiSpan count) spans = MultiSpanIn count spans
-ShapeIn (Cylindrical rise span) spans = CylindricalIn rise span
-ShapeIn (Abutting b1 b2 h slope guard) spans = AbuttingIn b1 b2 h slope guard
-ShapeIn (Projection h left right) spans = ProjectionIn h left right
+abbrev pub ShapeIn : Shape → List ℕ → Type 0
+ShapeIn (Monopitch slope guard) slopes = MonopitchIn slope guard
+ShapeIn (Pitched left right leftGuard rightGuard) slopes = PitchedIn left right leftGuard rightGuard
+ShapeIn (MultiSpan count) slopes = MultiSpanIn count slopes
+ShapeIn (Cylindrical rise span) slopes = CylindricalIn rise span
+ShapeIn (Abutting b1 b2 h slope guard) slopes = AbuttingIn b1 b2 h slope guard
+ShapeIn (Projection h left right) slopes = ProjectionIn h left right

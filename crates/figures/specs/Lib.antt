@@ -1,4 +1,6 @@
 pub mod Bounds
 pub mod Ranges
+pub mod Refusals
 pub mod RoofRules
+pub mod Rules
 pub mod SiteRules

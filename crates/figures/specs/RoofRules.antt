@@ -1,105 +1,91 @@
--- The value rules on a roof, refusals 8, 9 and 10, in document 01's order.
-use Prim.Native.Nat.{ℕ, zero, suc, _-_, _*_}
-use mathlib.Core.Bool.{Bool, true, false, cond, _&&_, _||_}
+-- The value rules on a roof, refusals 8, 9 and 10, in document 01's order: one definition a kind.
+use Prim.Native.Nat.{ℕ, zero, suc, _+_, _-_, _*_}
+use mathlib.Core.Bool.{Bool, true, false, not, _&&_, _||_}
 use mathlib.Core.List.{List}
 use lib.Dec.{leb, ltb, eqb}
-use lib.ListN.{getD}
+use lib.ListN.{getD, replicate}
 use Rattle.figures.specs.Ranges.{within}
+use Rattle.figures.specs.Rules.{refusedIf, firstOf}
 use Rattle.figures.specs.declared.roof.Slope.{Slope}
-use Rattle.figures.specs.declared.roof.Span.{Span}
 use Rattle.figures.specs.declared.roof.Shape.{Shape}
 use Rattle.figures.specs.declared.roof.Shape.the-variants.{Monopitch, Pitched, MultiSpan, Cylindrical, Abutting, Projection}
 use Rattle.figures.specs.declared.roof.Roof.{Roof}
-use Rattle.figures.specs.declared.roof.RoofVerdict.{RoofVerdict}
-use Rattle.figures.specs.declared.roof.RoofVerdict.the-variants.{RoofAccepted, RoofField, ValleyPitch, Rise}
+
+-- the kind of a shape, by document 01's number
+abbrev pub kindOf : Shape → ℕ
+kindOf (Monopitch slope guard) = 2
+kindOf (Pitched left right leftGuard rightGuard) = 3
+kindOf (MultiSpan count) = 4
+kindOf (Cylindrical rise span) = 5
+kindOf (Abutting b1 b2 h slope guard) = 6
+kindOf (Projection h left right) = 7
+
+-- a roof of a shape, with the slopes of a multi-span roof
+abbrev pub roofOf : Shape → List ℕ → Roof
+roofOf shape slopes = record { shape = shape; slopes = slopes }
+
+-- the slopes of a roof that is not multi-span: zeros, which no rule reads
+abbrev pub noSlopes : List ℕ
+noSlopes = replicate 64 0
+
+-- slope i of a multi-span roof, from 0 at the left: two numbers each, its pitch and its width; span i has slopes 2i and 2i + 1
+unfoldable pub slopeOf : List ℕ → ℕ → Slope
+slopeOf slopes i = record { pitch = getD slopes (2 * i) 0; width = getD slopes (2 * i + 1) 0 }
 
 -- pitch 0..800; widths are plan widths, 1..100,000
 abbrev pub slopeFields : Slope → Bool
 slopeFields s = leb (s .pitch) 800 && within 1 100000 (s .width)
 
-abbrev pub spanFields : Span → Bool
-spanFields s = slopeFields (s .left) && slopeFields (s .right)
+-- each field of the first n slopes in its range
+unfoldable pub slopesFields : List ℕ → ℕ → Bool
+slopesFields slopes zero = true
+slopesFields slopes (suc n) = slopesFields slopes n && slopeFields (slopeOf slopes n)
 
--- a span of zeros, which stands where a roof has no span
-abbrev pub noSpan : Span
-noSpan = record { left = record { pitch = 0; width = 0 }; right = record { pitch = 0; width = 0 } }
-
--- span i of a multi-span roof, from 0 at the left
-abbrev pub spanAt : List Span → ℕ → Span
-spanAt spans i = getD spans i noSpan
-
--- each field of the first n spans in its range
-unfoldable pub spansFields : List Span → ℕ → Bool
-spansFields spans zero = true
-spansFields spans (suc n) = spansFields spans n && spanFields (spanAt spans n)
-
--- each field of a roof in its range, kind by kind: a guard is 0 or 1, h is 1..30,000
-abbrev pub monopitchFields : Slope → ℕ → Bool
-monopitchFields slope guard = slopeFields slope && leb guard 1
-
-abbrev pub pitchedFields : Slope → Slope → ℕ → ℕ → Bool
-pitchedFields left right leftGuard rightGuard = slopeFields left && slopeFields right && leb leftGuard 1 && leb rightGuard 1
-
-abbrev pub multiSpanFields : ℕ → List Span → Bool
-multiSpanFields count spans = within 2 16 count && spansFields spans count
-
-abbrev pub cylindricalFields : ℕ → ℕ → Bool
-cylindricalFields rise span = within 1 15000 rise && within 2 30000 span
-
-abbrev pub abuttingFields : ℕ → ℕ → ℕ → Slope → ℕ → Bool
-abuttingFields b1 b2 h slope guard =
-    within 1 100000 b1
-    && within 1 100000 b2
-    && within 1 30000 h
-    && slopeFields slope
-    && leb guard 1
-
-abbrev pub projectionFields : ℕ → ℕ → ℕ → Bool
-projectionFields h left right = within 1 30000 h && within 1 100000 left && within 1 100000 right
-
-unfoldable pub shapeFields : Shape → List Span → Bool
-shapeFields (Monopitch slope guard) spans = monopitchFields slope guard
-shapeFields (Pitched left right leftGuard rightGuard) spans = pitchedFields left right leftGuard rightGuard
-shapeFields (MultiSpan count) spans = multiSpanFields count spans
-shapeFields (Cylindrical rise span) spans = cylindricalFields rise span
-shapeFields (Abutting b1 b2 h slope guard) spans = abuttingFields b1 b2 h slope guard
-shapeFields (Projection h left right) spans = projectionFields h left right
-
--- at a valley, either slope above 60.0° or both exactly 60.0°
+-- "at a valley of kind 4, either slope above 60.0° or both exactly 60.0°"
 abbrev pub steepValley : ℕ → ℕ → Bool
 steepValley left right = ltb 600 left || ltb 600 right || (eqb left 600 && eqb right 600)
 
--- the same at one of the first n valleys; valley i lies between span i and the next
-unfoldable pub steepValleys : List Span → ℕ → Bool
-steepValleys spans zero = false
-steepValleys spans (suc n) = steepValleys spans n || steepValley (spanAt spans n .right .pitch) (spanAt spans (suc n) .left .pitch)
+-- the same at one of the first n valleys; valley i lies between slopes 2i + 1 and 2i + 2
+unfoldable pub steepValleys : List ℕ → ℕ → Bool
+steepValleys slopes zero = false
+steepValleys slopes (suc n) = steepValleys slopes n || steepValley (slopeOf slopes (2 * n + 1) .pitch) (slopeOf slopes (2 * n + 2) .pitch)
 
-unfoldable pub steep : Shape → List Span → Bool
-steep (Monopitch slope guard) spans = false
-steep (Pitched left right leftGuard rightGuard) spans = false
-steep (MultiSpan count) spans = steepValleys spans (count - 1)
-steep (Cylindrical rise span) spans = false
-steep (Abutting b1 b2 h slope guard) spans = false
-steep (Projection h left right) spans = false
+-- "8 roof field outside its range": a guard is 0 or 1, h is 1..30,000
+abbrev pub monopitchRefusal : Slope → ℕ → ℕ
+monopitchRefusal slope guard = refusedIf (not (slopeFields slope && leb guard 1)) 8
 
--- twice the rise is more than the span
-unfoldable pub highRise : Shape → Bool
-highRise (Monopitch slope guard) = false
-highRise (Pitched left right leftGuard rightGuard) = false
-highRise (MultiSpan count) = false
-highRise (Cylindrical rise span) = ltb span (2 * rise)
-highRise (Abutting b1 b2 h slope guard) = false
-highRise (Projection h left right) = false
+abbrev pub pitchedRefusal : Slope → Slope → ℕ → ℕ → ℕ
+pitchedRefusal left right leftGuard rightGuard =
+    refusedIf (not (slopeFields left && slopeFields right && leb leftGuard 1 && leb rightGuard 1)) 8
 
--- the number of the first value rule that a roof breaks, 0 where it breaks none:
--- 8 roof field outside its range; 9 at a valley of kind 4, either slope above 60.0° or both exactly 60.0°;
--- 10 twice the rise is more than the span
-unfoldable pub roofRefusal : Roof → ℕ
-roofRefusal r = cond (shapeFields (r .shape) (r .spans)) (cond (steep (r .shape) (r .spans)) 9 (cond (highRise (r .shape)) 10 0)) 8
+-- 2 to 16 spans; then 9
+abbrev pub multiSpanRefusal : ℕ → List ℕ → ℕ
+multiSpanRefusal count slopes =
+    firstOf (refusedIf (not (within 2 16 count && slopesFields slopes (2 * count))) 8)
+    (refusedIf (steepValleys slopes (count - 1)) 9)
 
--- the number that a verdict stands for
-abbrev pub roofNumber : RoofVerdict → ℕ
-roofNumber RoofAccepted = 0
-roofNumber RoofField = 8
-roofNumber ValleyPitch = 9
-roofNumber Rise = 10
+-- "10 twice the rise is more than the span"
+abbrev pub cylindricalRefusal : ℕ → ℕ → ℕ
+cylindricalRefusal rise span =
+    firstOf (refusedIf (not (within 1 15000 rise && within 2 30000 span)) 8)
+    (refusedIf (ltb span (2 * rise)) 10)
+
+abbrev pub abuttingRefusal : ℕ → ℕ → ℕ → Slope → ℕ → ℕ
+abuttingRefusal b1 b2 h slope guard =
+    refusedIf (not (within 1 100000 b1 && within 1 100000 b2 && within 1 30000 h && slopeFields slope && leb guard 1)) 8
+
+abbrev pub projectionRefusal : ℕ → ℕ → ℕ → ℕ
+projectionRefusal h left right = refusedIf (not (within 1 30000 h && within 1 100000 left && within 1 100000 right)) 8
+
+-- the first rule that a roof breaks, 0 for none
+unfoldable pub shapeRefusal : Shape → List ℕ → ℕ
+shapeRefusal (Monopitch slope guard) slopes = monopitchRefusal slope guard
+shapeRefusal (Pitched left right leftGuard rightGuard) slopes = pitchedRefusal left right leftGuard rightGuard
+shapeRefusal (MultiSpan count) slopes = multiSpanRefusal count slopes
+shapeRefusal (Cylindrical rise span) slopes = cylindricalRefusal rise span
+shapeRefusal (Abutting b1 b2 h slope guard) slopes = abuttingRefusal b1 b2 h slope guard
+shapeRefusal (Projection h left right) slopes = projectionRefusal h left right
+
+-- "a roof likewise, here 8, 9 and 10": it is accepted (document 01, words of demand 3) where this is 0
+abbrev pub roofRefusal : Roof → ℕ
+roofRefusal roof = shapeRefusal (roof .shape) (roof .slopes)

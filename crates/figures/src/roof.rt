@@ -1,8 +1,12 @@
-// A roof and its value rules, refusals 8, 9 and 10.
-ghost use mathlib.Core.Bool.{true};
+// A roof, its shape with the slopes of a multi-span roof beside it, and the value rules on it, refusals 8, 9 and 10: one
+// function a kind, and a dispatcher.
 ghost use mathlib.Core.Path.{_≡_};
-ghost use Prim.Native.Nat.{_≤_};
-ghost use Rattle.figures.specs.RoofRules.{slopeFields, spanFields, spansFields, monopitchFields, pitchedFields, multiSpanFields, cylindricalFields, abuttingFields, projectionFields, shapeFields, steepValley, steepValleys, steep, highRise, roofNumber, roofRefusal};
+ghost use Rattle.figures.specs.RoofRules.{kindOf, monopitchRefusal, pitchedRefusal, multiSpanRefusal, cylindricalRefusal, abuttingRefusal, projectionRefusal, shapeRefusal, roofRefusal};
+use crate::rules::first;
+use crate::rules::refused_if;
+use crate::slopes::slope_fields;
+use crate::slopes::slopes_fields;
+use crate::slopes::steep_valleys;
 
 // Refusals of a roof, by document 01's numbers.
 const ROOF_FIELD: u8 = 8;
@@ -11,16 +15,13 @@ const VALLEY_PITCH: u8 = 9;
 
 const RISE: u8 = 10;
 
+// How many numbers the slopes of a multi-span roof take: two for each of 32 slopes.
+pub const SLOPE_NUMBERS: usize = 64;
+
 // A slope: its pitch in tenths of a degree, and its plan width in mm.
 pub struct Slope {
-    pub pitch: u16,
+    pub pitch: u32,
     pub width: u32,
-}
-
-// A span of a multi-span roof: two slopes that meet at a ridge.
-pub struct Span {
-    pub left: Slope,
-    pub right: Slope,
 }
 
 // The shape of a roof, kinds 2 to 7. Lengths in mm; a guard is 0 or 1.
@@ -56,202 +57,114 @@ pub enum Shape {
     },
 }
 
-// A roof: its shape and, for a multi-span roof, its spans from left to right.
+// A roof. The slopes of a multi-span roof stand from left to right, two numbers each: pitch and width. Other kinds have
+// zeros there.
 pub struct Roof {
     pub shape: Shape,
-    pub spans: [Span; 16],
+    pub slopes: [u32; SLOPE_NUMBERS],
 }
 
-// What the value rules say of a roof.
-pub enum RoofVerdict {
-    RoofAccepted,
-    RoofField,
-    ValleyPitch,
-    Rise,
-}
-
-fn slope_fields(slope: Slope) -> bool
-    ensures { λ r. ⌜ r ≡ slopeFields slope ⌝ }
+// The kind of a shape, by document 01's number.
+pub fn kind_of(shape: Shape) -> u8
+    ensures { λ r. ⌜ r ≡ kindOf shape ⌝ }
 {
-    (slope.pitch <= 800) & ((1 <= slope.width) & (slope.width <= 100_000))
-}
-
-fn span_fields(span: Span) -> bool
-    ensures { λ r. ⌜ r ≡ spanFields span ⌝ }
-{
-    let left = slope_fields(span.left);
-    let right = slope_fields(span.right);
-    left & right
-}
-
-// Whether every field of the first count spans lies in its range.
-fn spans_fields(spans: [Span; 16], count: usize) -> bool
-    requires { ⌜ count ≤ 16 ⌝ }
-    ensures { λ r. ⌜ r ≡ spansFields spans count ⌝ }
-{
-    let mut sound = true;
-    let mut i = 0;
-    while i < count {
-        let span = spans[i];
-        sound = sound & span_fields(span);
-        i += 1;
+    match shape {
+        Shape::Monopitch { .. } => 2,
+        Shape::Pitched { .. } => 3,
+        Shape::MultiSpan { .. } => 4,
+        Shape::Cylindrical { .. } => 5,
+        Shape::Abutting { .. } => 6,
+        Shape::Projection { .. } => 7,
     }
-    sound
 }
 
-fn monopitch_fields(slope: Slope, guard: u8) -> bool
-    ensures { λ r. ⌜ r ≡ monopitchFields slope guard ⌝ }
+fn monopitch_refusal(slope: Slope, guard: u8) -> u8
+    ensures { λ r. ⌜ r ≡ monopitchRefusal slope guard ⌝ }
 {
-    slope_fields(slope) & (guard <= 1)
+    refused_if(!(slope_fields(slope) & (guard <= 1)), ROOF_FIELD)
 }
 
-fn pitched_fields(left: Slope, right: Slope, left_guard: u8, right_guard: u8) -> bool
-    ensures { λ r. ⌜ r ≡ pitchedFields left right «left_guard» «right_guard» ⌝ }
+fn pitched_refusal(left: Slope, right: Slope, left_guard: u8, right_guard: u8) -> u8
+    ensures { λ r. ⌜ r ≡ pitchedRefusal left right «left_guard» «right_guard» ⌝ }
 {
-    slope_fields(left) & slope_fields(right) & (left_guard <= 1) & (right_guard <= 1)
+    refused_if(
+        !(slope_fields(left) & slope_fields(right) & (left_guard <= 1) & (right_guard <= 1)),
+        ROOF_FIELD,
+    )
 }
 
-fn multi_span_fields(spans: [Span; 16], count: u8) -> bool
-    ensures { λ r. ⌜ r ≡ multiSpanFields count spans ⌝ }
+fn multi_span_refusal(count: u8, slopes: &[u32; SLOPE_NUMBERS]) -> u8
+    ensures { λ r. ⌜ r ≡ multiSpanRefusal count (now (slopes .entry)) ⌝ }
 {
     if !((2 <= count) & (count <= 16)) {
-        return false;
+        return ROOF_FIELD;
     }
-    spans_fields(spans, count as usize)
+    let spans = count as usize;
+    let fields = refused_if(!slopes_fields(slopes, 2 * spans), ROOF_FIELD);
+    first(
+        fields,
+        refused_if(steep_valleys(slopes, spans - 1), VALLEY_PITCH),
+    )
 }
 
-fn cylindrical_fields(rise: u32, span: u32) -> bool
-    ensures { λ r. ⌜ r ≡ cylindricalFields rise span ⌝ }
+fn cylindrical_refusal(rise: u32, span: u32) -> u8
+    ensures { λ r. ⌜ r ≡ cylindricalRefusal rise span ⌝ }
 {
-    ((1 <= rise) & (rise <= 15_000)) & ((2 <= span) & (span <= 30_000))
+    let sound = ((1 <= rise) & (rise <= 15_000)) & ((2 <= span) & (span <= 30_000));
+    let fields = refused_if(!sound, ROOF_FIELD);
+    first(fields, refused_if((span as u64) < 2 * (rise as u64), RISE))
 }
 
-fn abutting_fields(b1: u32, b2: u32, h: u32, slope: Slope, guard: u8) -> bool
-    ensures { λ r. ⌜ r ≡ abuttingFields b1 b2 h slope guard ⌝ }
+fn abutting_refusal(b1: u32, b2: u32, h: u32, slope: Slope, guard: u8) -> u8
+    ensures { λ r. ⌜ r ≡ abuttingRefusal b1 b2 h slope guard ⌝ }
 {
-    ((1 <= b1) & (b1 <= 100_000))
+    let sound = ((1 <= b1) & (b1 <= 100_000))
         & ((1 <= b2) & (b2 <= 100_000))
         & ((1 <= h) & (h <= 30_000))
         & slope_fields(slope)
-        & (guard <= 1)
+        & (guard <= 1);
+    refused_if(!sound, ROOF_FIELD)
 }
 
-fn projection_fields(h: u32, left: u32, right: u32) -> bool
-    ensures { λ r. ⌜ r ≡ projectionFields h left right ⌝ }
+fn projection_refusal(h: u32, left: u32, right: u32) -> u8
+    ensures { λ r. ⌜ r ≡ projectionRefusal h left right ⌝ }
 {
-    ((1 <= h) & (h <= 30_000))
+    let sound = ((1 <= h) & (h <= 30_000))
         & ((1 <= left) & (left <= 100_000))
-        & ((1 <= right) & (right <= 100_000))
+        & ((1 <= right) & (right <= 100_000));
+    refused_if(!sound, ROOF_FIELD)
 }
 
-// Whether every field of the roof lies in its range.
-fn roof_fields(roof: Roof) -> bool
-    ensures { λ r. ⌜ r ≡ shapeFields (roof .shape) (roof .spans) ⌝ }
+// The number of the first value rule that a shape with its slopes breaks, 0 where it breaks none.
+pub fn shape_refusal(shape: Shape, slopes: &[u32; SLOPE_NUMBERS]) -> u8
+    ensures { λ r. ⌜ r ≡ shapeRefusal shape (now (slopes .entry)) ⌝ }
 {
-    let shape = roof.shape;
-    let spans = roof.spans;
     match shape {
-        Shape::Monopitch { slope, guard } => monopitch_fields(slope, guard),
+        Shape::Monopitch { slope, guard } => monopitch_refusal(slope, guard),
         Shape::Pitched {
             left,
             right,
             left_guard,
             right_guard,
-        } => pitched_fields(left, right, left_guard, right_guard),
-        Shape::MultiSpan { count } => multi_span_fields(spans, count),
-        Shape::Cylindrical { rise, span } => cylindrical_fields(rise, span),
+        } => pitched_refusal(left, right, left_guard, right_guard),
+        Shape::MultiSpan { count } => multi_span_refusal(count, slopes),
+        Shape::Cylindrical { rise, span } => cylindrical_refusal(rise, span),
         Shape::Abutting {
             b1,
             b2,
             h,
             slope,
             guard,
-        } => abutting_fields(b1, b2, h, slope, guard),
-        Shape::Projection { h, left, right } => projection_fields(h, left, right),
+        } => abutting_refusal(b1, b2, h, slope, guard),
+        Shape::Projection { h, left, right } => projection_refusal(h, left, right),
     }
 }
 
-// Whether one valley, between slopes of these pitches, is refused.
-fn steep_valley(left: u16, right: u16) -> bool
-    ensures { λ r. ⌜ r ≡ steepValley left right ⌝ }
-{
-    (600 < left) | (600 < right) | ((left == 600) & (right == 600))
-}
-
-// Whether one of the first valleys is refused.
-fn steep_valleys(spans: [Span; 16], valleys: usize) -> bool
-    requires { ⌜ valleys ≤ 15 ⌝ }
-    ensures { λ r. ⌜ r ≡ steepValleys spans valleys ⌝ }
-{
-    let mut steep = false;
-    let mut i = 0;
-    while i < valleys {
-        let before = spans[i];
-        let after = spans[i + 1];
-        let left = before.right;
-        let right = after.left;
-        steep = steep | steep_valley(left.pitch, right.pitch);
-        i += 1;
-    }
-    steep
-}
-
-// Whether a valley of the roof is refused.
-fn steep_roof(roof: Roof) -> bool
-    requires { ⌜ shapeFields (roof .shape) (roof .spans) ≡ true ⌝ }
-    ensures { λ r. ⌜ r ≡ steep (roof .shape) (roof .spans) ⌝ }
+// The same of a roof.
+pub fn roof_refusal(roof: Roof) -> u8
+    ensures { λ r. ⌜ r ≡ roofRefusal roof ⌝ }
 {
     let shape = roof.shape;
-    let spans = roof.spans;
-    match shape {
-        Shape::MultiSpan { count } => steep_valleys(spans, count as usize - 1),
-        Shape::Monopitch { .. } => false,
-        Shape::Pitched { .. } => false,
-        Shape::Cylindrical { .. } => false,
-        Shape::Abutting { .. } => false,
-        Shape::Projection { .. } => false,
-    }
-}
-
-// Whether twice the rise is more than the span.
-fn high_roof(shape: Shape) -> bool
-    ensures { λ r. ⌜ r ≡ highRise shape ⌝ }
-{
-    match shape {
-        Shape::Cylindrical { rise, span } => (span as u64) < 2 * (rise as u64),
-        Shape::Monopitch { .. } => false,
-        Shape::Pitched { .. } => false,
-        Shape::MultiSpan { .. } => false,
-        Shape::Abutting { .. } => false,
-        Shape::Projection { .. } => false,
-    }
-}
-
-// The first value rule that the roof breaks.
-pub fn roof_verdict(roof: Roof) -> RoofVerdict
-    ensures { λ r. ⌜ roofNumber r ≡ roofRefusal roof ⌝ }
-{
-    if !roof_fields(roof) {
-        return RoofVerdict::RoofField;
-    }
-    if steep_roof(roof) {
-        return RoofVerdict::ValleyPitch;
-    }
-    let shape = roof.shape;
-    if high_roof(shape) {
-        return RoofVerdict::Rise;
-    }
-    RoofVerdict::RoofAccepted
-}
-
-// The number of a verdict on a roof, 0 where the roof is accepted.
-pub fn roof_number(verdict: RoofVerdict) -> u8
-    ensures { λ r. ⌜ r ≡ roofNumber verdict ⌝ }
-{
-    match verdict {
-        RoofVerdict::RoofAccepted => 0,
-        RoofVerdict::RoofField => ROOF_FIELD,
-        RoofVerdict::ValleyPitch => VALLEY_PITCH,
-        RoofVerdict::Rise => RISE,
-    }
+    let slopes = roof.slopes;
+    shape_refusal(shape, &slopes)
 }

@@ -1,6 +1,8 @@
 // A site and its value rules, refusals 6 and 7.
 ghost use mathlib.Core.Path.{_≡_};
-ghost use Rattle.figures.specs.SiteRules.{siteFields, siteNumber, siteRefusal};
+ghost use Rattle.figures.specs.SiteRules.{siteFields, siteRefusal};
+use crate::rules::first;
+use crate::rules::refused_if;
 
 // Refusals of a site, by document 01's numbers.
 const SITE_FIELD: u8 = 6;
@@ -17,13 +19,6 @@ pub struct Site {
     pub altitude: u16,
 }
 
-// What the value rules say of a site.
-pub enum SiteVerdict {
-    SiteAccepted,
-    SiteField,
-    Altitude,
-}
-
 // Whether every field but the altitude lies in its range.
 fn site_fields(site: Site) -> bool
     ensures { λ r. ⌜ r ≡ siteFields site ⌝ }
@@ -35,26 +30,10 @@ fn site_fields(site: Site) -> bool
         & (site.situation <= 1)
 }
 
-// The first value rule that the site breaks.
-pub fn site_verdict(site: Site) -> SiteVerdict
-    ensures { λ r. ⌜ siteNumber r ≡ siteRefusal site ⌝ }
+// The number of the first value rule that the site breaks, 0 where it breaks none.
+pub fn site_refusal(site: Site) -> u8
+    ensures { λ r. ⌜ r ≡ siteRefusal site ⌝ }
 {
-    if !site_fields(site) {
-        return SiteVerdict::SiteField;
-    }
-    if 1_500 < site.altitude {
-        return SiteVerdict::Altitude;
-    }
-    SiteVerdict::SiteAccepted
-}
-
-// The number of a verdict on a site, 0 where the site is accepted.
-pub fn site_number(verdict: SiteVerdict) -> u8
-    ensures { λ r. ⌜ r ≡ siteNumber verdict ⌝ }
-{
-    match verdict {
-        SiteVerdict::SiteAccepted => 0,
-        SiteVerdict::SiteField => SITE_FIELD,
-        SiteVerdict::Altitude => ALTITUDE,
-    }
+    let fields = refused_if(!site_fields(site), SITE_FIELD);
+    first(fields, refused_if(1_500 < site.altitude, ALTITUDE))
 }

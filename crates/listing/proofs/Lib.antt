@@ -1,5 +1,3 @@
+pub mod Accepted
 pub mod Bounds
-pub mod Codes
-pub mod Lines
-pub mod Sheets
 pub mod Worked

@@ -2,18 +2,23 @@
 use Prim.Native.Nat.{ℕ}
 use mathlib.Core.List.{List, [], _∷_}
 use mathlib.Core.Path.{_≡_, refl}
-use Rattle.figures.specs.RoofRules.{shapeFields, steep, highRise, roofRefusal}
+use Rattle.figures.specs.RoofRules.{shapeRefusal}
+use Rattle.figures.specs.Rules.{firstOf}
 use Rattle.figures.specs.SiteRules.{siteRefusal}
-use Rattle.listing.specs.Listing.{segmentRows, codeRows, caseRows, arrangementRows, slopeRows, forceRows, itemsRows, listingBy, listing}
+use Rattle.roof_rows.specs.Rows.{segmentRows, codeRows, codesRows, arrangementRows, slopeRows, forceRows}
+use Rattle.roof_rows.specs.Rows.{roofRows}
+use Rattle.listing.specs.Listing.{itemRows, itemsRows, listingBy, listing}
 use Rattle.rounding.specs.Limit.{larger}
 use Rattle.rounding.specs.Load.{breakLoad}
 use Rattle.rounding.specs.Ramp.{reading}
 use Rattle.rounding.specs.Up.{ceilDiv, roundedUp}
-use Rattle.sheet.specs.Items.{sized, siteItem, monopitchItem, byKind, content}
+use Rattle.items.specs.Items.{sized, siteItem, monopitchItem, byKind, content}
+use Rattle.sheet.specs.Find.{sheetSite, sheetRoof}
 use Rattle.sheet.specs.Sheet.{pairNumber, itemNumber, inTurn, pairsVerdict, sheetVerdict}
-use Rattle.standard.specs.Arrangements.{persistent, exceptional, existsIn, factorOf, countIn, stretchIn, exists, count, stretch}
+use Rattle.standard.specs.Arrangements.{factorOf, countIn, stretchIn, exists, count, stretch}
+use Rattle.standard.specs.Codes.{existsIn}
 use Rattle.standard.specs.Coefficients.{mu1, guarded}
-use Rattle.standard.specs.Forces.{slopeAt, slopeLoad, wholeLoad, guardRule, guardForce, valuesRefusal, overhangAt, overhangAnswer, guardAt, guardAnswer}
+use Rattle.standard.specs.Forces.{slopeAt, slopeLoad, wholeLoad, guardRule, guardForce, overhangAt, guardAt}
 use Rattle.standard.specs.Monopitch.{monopitch}
 use Rattle.standard.specs.Sine.{sineReference, sineEntry}
 use Rattle.standard.specs.Stretch.{load, readIn, startOf, segment}
@@ -22,22 +27,24 @@ use Rattle.text.specs.Text.{decimal}
 -- 02 00 0A 00 0E 00 ..
 abbrev sheet : List ℕ
 sheet =
-    2 ∷ 0 ∷ 10 ∷ 0 ∷ 14 ∷ 0 ∷ 24 ∷ 0 ∷ 8 ∷ 0 ∷ 1 ∷ 232 ∷ 3 ∷ 0 ∷ 0 ∷ 100 ∷ 0 ∷ 100 ∷ 0 ∷ 200 ∷ 0 ∷ 0 ∷ 244 ∷ 1 ∷ 2 ∷
-    44 ∷ 1 ∷ 1 ∷ 136 ∷ 19 ∷ 0 ∷ 0 ∷ []
+    2 ∷ 0 ∷ 10 ∷ 0 ∷ 14 ∷ 0 ∷ 24 ∷ 0 ∷ 8 ∷ 0 ∷
+    1 ∷ 232 ∷ 3 ∷ 0 ∷ 0 ∷ 100 ∷ 0 ∷ 100 ∷ 0 ∷ 200 ∷ 0 ∷ 0 ∷ 244 ∷ 1 ∷
+    2 ∷ 44 ∷ 1 ∷ 1 ∷ 136 ∷ 19 ∷ 0 ∷ 0 ∷ []
 
 -- ITEM ARR START END LOAD LOAD, 1 1 0 20000 800 800, 1 22 1 2000
 abbrev text : List ℕ
 text =
-    73 ∷ 84 ∷ 69 ∷ 77 ∷ 32 ∷ 65 ∷ 82 ∷ 82 ∷ 32 ∷ 83 ∷ 84 ∷ 65 ∷ 82 ∷ 84 ∷ 32 ∷ 69 ∷ 78 ∷ 68 ∷ 32 ∷ 76 ∷ 79 ∷ 65 ∷ 68 ∷
-    32 ∷ 76 ∷ 79 ∷ 65 ∷ 68 ∷ 10 ∷ 49 ∷ 32 ∷ 49 ∷ 32 ∷ 48 ∷ 32 ∷ 50 ∷ 48 ∷ 48 ∷ 48 ∷ 48 ∷ 32 ∷ 56 ∷ 48 ∷ 48 ∷ 32 ∷ 56 ∷
-    48 ∷ 48 ∷ 10 ∷ 49 ∷ 32 ∷ 50 ∷ 50 ∷ 32 ∷ 49 ∷ 32 ∷ 50 ∷ 48 ∷ 48 ∷ 48 ∷ 10 ∷ []
+    73 ∷ 84 ∷ 69 ∷ 77 ∷ 32 ∷ 65 ∷ 82 ∷ 82 ∷ 32 ∷ 83 ∷ 84 ∷ 65 ∷ 82 ∷ 84 ∷ 32 ∷
+    69 ∷ 78 ∷ 68 ∷ 32 ∷ 76 ∷ 79 ∷ 65 ∷ 68 ∷ 32 ∷ 76 ∷ 79 ∷ 65 ∷ 68 ∷ 10 ∷
+    49 ∷ 32 ∷ 49 ∷ 32 ∷ 48 ∷ 32 ∷ 50 ∷ 48 ∷ 48 ∷ 48 ∷ 48 ∷ 32 ∷ 56 ∷ 48 ∷ 48 ∷ 32 ∷ 56 ∷ 48 ∷ 48 ∷ 10 ∷
+    49 ∷ 32 ∷ 50 ∷ 50 ∷ 32 ∷ 49 ∷ 32 ∷ 50 ∷ 48 ∷ 48 ∷ 48 ∷ 10 ∷ []
 
 pub example : listing sheet ≡ text
-unfolding listing listingBy itemsRows arrangementRows caseRows codeRows segmentRows forceRows slopeRows
+unfolding listing listingBy itemsRows itemRows roofRows arrangementRows codesRows codeRows segmentRows forceRows slopeRows sheetSite sheetRoof
     sheetVerdict pairsVerdict inTurn pairNumber itemNumber content byKind siteItem monopitchItem sized
-    siteRefusal roofRefusal shapeFields steep highRise
-    exists existsIn persistent exceptional count countIn stretch stretchIn factorOf monopitch
+    siteRefusal shapeRefusal firstOf
+    exists existsIn count countIn stretch stretchIn factorOf monopitch
     mu1 guarded segment startOf readIn load reading breakLoad roundedUp ceilDiv larger
-    slopeAt slopeLoad wholeLoad overhangAnswer overhangAt guardAnswer guardAt guardForce guardRule valuesRefusal sineEntry sineReference
+    slopeAt slopeLoad wholeLoad overhangAt guardAt guardForce guardRule sineEntry sineReference
     decimal
 example = refl

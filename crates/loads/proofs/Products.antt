@@ -21,10 +21,6 @@ products m d f s h =
       most = omega (arith, mul-le-mul (h .most) (ground f s (h .ground)));
     }
 
--- a product of two numbers within their limits
-pub product : {a b p q : ℕ} → a ≤ p → b ≤ q → a * b ≤ p * q
-product h k = mul-le-mul h k
-
 -- a coefficient's numerator of at most 1600 × h × sk
 pub wind-small : (w h s : ℕ) → h ≤ 30000 → s ≤ 25000 → w ≤ 1600 * h * s → w ≤ 1200000000000
 wind-small w h s p q r = omega (arith, mul-le-mul p q)

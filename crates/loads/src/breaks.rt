@@ -9,21 +9,22 @@ ghost use Rattle.standard.specs.Abutting.{abuttingLength, wallLoad};
 ghost use Rattle.standard.specs.Bounds.{NationalIn};
 ghost use Rattle.standard.specs.Coefficients.{slopeMu, valleyMu, mu3};
 ghost use Rattle.standard.specs.Pitched.{halved};
-ghost use Rattle.standard.specs.Projection.{obstacleLoad};
+ghost use Rattle.standard.specs.Projection.{projectionLoad};
 ghost use Rattle.standard.specs.Stretch.{loadAlone, eightTenths};
-use crate::coefficients::arch_over_span;
-use crate::coefficients::obstacle_over_ground;
-use crate::coefficients::slide_over_length;
-use crate::coefficients::slope_over_375;
-use crate::coefficients::valley_over_750;
-use crate::coefficients::wind_over_depth;
+ghost use Rattle.standard.specs.Units.{parts, largestPart, largestLoad};
+use crate::coefficients::arch_numerator;
+use crate::coefficients::projection_numerator;
+use crate::coefficients::slide_numerator;
+use crate::coefficients::slope_numerator;
+use crate::coefficients::valley_numerator;
+use crate::coefficients::wind_numerator;
 use figures::Slope;
 use standard::National;
 
-// n over d millionths, rounded up.
+// The load n / (d × 1,000,000), rounded up: a factor is in millionths.
 fn up(n: u64, d: u64) -> u64
-    requires { ⌜ (1 ≤ d) × (d ≤ 20000000) × (n ≤ 7200000 * (d * 1000000)) ⌝ }
-    ensures { λ r. ⌜ (r ≡ ceilDiv n (d * 1000000)) × (r ≤ 7200000) ⌝ }
+    requires { ⌜ (1 ≤ d) × (d ≤ 20000000) × (n ≤ largestPart * (d * 1000000)) ⌝ }
+    ensures { λ r. ⌜ (r ≡ ceilDiv n (d * 1000000)) × (r ≤ largestPart) ⌝ }
 {
     rounding::ceil_div(n, d * 1_000_000)
 }
@@ -31,7 +32,7 @@ fn up(n: u64, d: u64) -> u64
 // The load at μ = m / d, rounded up.
 fn load_up(m: u64, d: u64, factor: u64, sk: u64) -> u64
     requires { ⌜ Sized m d factor sk ⌝ }
-    ensures { λ r. ⌜ (r ≡ ceilDiv (m * factor * sk) (d * 1000000)) × (r ≤ 7200000) ⌝ }
+    ensures { λ r. ⌜ (r ≡ ceilDiv (m * factor * sk) (d * 1000000)) × (r ≤ largestPart) ⌝ }
 {
     up(m * factor * sk, d)
 }
@@ -39,7 +40,7 @@ fn load_up(m: u64, d: u64, factor: u64, sk: u64) -> u64
 // The load at μ = 0.8.
 pub fn eight_tenths_load(factor: u64, sk: u64) -> u64
     requires { ⌜ Ground factor sk ⌝ }
-    ensures { λ r. ⌜ (r ≡ breakLoad 1 (eightTenths factor sk)) × (r ≤ 7200000) ⌝ }
+    ensures { λ r. ⌜ (r ≡ breakLoad parts (eightTenths factor sk)) × (r ≤ largestPart) ⌝ }
 {
     load_up(8, 10, factor, sk)
 }
@@ -47,9 +48,9 @@ pub fn eight_tenths_load(factor: u64, sk: u64) -> u64
 // The load of a slope's μ1, or of half of it.
 pub fn slope_load(slope: Slope, guard: u8, half: bool, factor: u64, sk: u64) -> u64
     requires { ⌜ (guard ≤ 1) × Ground factor sk ⌝ }
-    ensures { λ r. ⌜ (r ≡ breakLoad 1 (loadAlone (halved half (slopeMu slope guard)) factor sk)) × (r ≤ 7200000) ⌝ }
+    ensures { λ r. ⌜ (r ≡ breakLoad parts (loadAlone (halved half (slopeMu slope guard)) factor sk)) × (r ≤ largestPart) ⌝ }
 {
-    let m = slope_over_375(slope.pitch, guard);
+    let m = slope_numerator(slope.pitch, guard);
     if half {
         return load_up(m, 750, factor, sk);
     }
@@ -57,19 +58,19 @@ pub fn slope_load(slope: Slope, guard: u8, half: bool, factor: u64, sk: u64) -> 
 }
 
 // The load at a valley, by the mean of its two pitches.
-pub fn valley_load(left: u16, right: u16, factor: u64, sk: u64) -> u64
+pub fn valley_load(left: u32, right: u32, factor: u64, sk: u64) -> u64
     requires { ⌜ Ground factor sk ⌝ }
-    ensures { λ r. ⌜ (r ≡ breakLoad 1 (loadAlone (valleyMu left right) factor sk)) × (r ≤ 7200000) ⌝ }
+    ensures { λ r. ⌜ (r ≡ breakLoad parts (loadAlone (valleyMu left right) factor sk)) × (r ≤ largestPart) ⌝ }
 {
-    load_up(valley_over_750(left, right), 750, factor, sk)
+    load_up(valley_numerator(left, right), 750, factor, sk)
 }
 
 // The load of a cylindrical roof's μ3, or of half of it.
 pub fn arch_load(national: National, rise: u64, span: u64, half: bool, factor: u64, sk: u64) -> u64
     requires { ⌜ NationalIn national × (rise ≤ 15000) × Within 1 30000 span × Ground factor sk ⌝ }
-    ensures { λ r. ⌜ (r ≡ breakLoad 1 (loadAlone (halved half (mu3 national rise span)) factor sk)) × (r ≤ 7200000) ⌝ }
+    ensures { λ r. ⌜ (r ≡ breakLoad parts (loadAlone (halved half (mu3 national rise span)) factor sk)) × (r ≤ largestPart) ⌝ }
 {
-    let m = arch_over_span(national, rise, span);
+    let m = arch_numerator(national, rise, span);
     if half {
         return load_up(m, 200 * span, factor, sk);
     }
@@ -89,17 +90,17 @@ pub fn wall_load(
     sk: u64,
 ) -> u64
     requires { ⌜ NationalIn national × (b1 + b2 ≤ 200000) × Within 1 30000 h × SlopeIn slope × (guard ≤ 1) × (ls ≡ abuttingLength national h) × Within 1000 30000 ls × Ground factor sk ⌝ }
-    ensures { λ r. ⌜ (r ≡ breakLoad 1 (wallLoad national factor sk b1 b2 h slope guard)) × (r ≤ 14400000) ⌝ }
+    ensures { λ r. ⌜ (r ≡ breakLoad parts (wallLoad national factor sk b1 b2 h slope guard)) × (r ≤ largestLoad) ⌝ }
 {
-    let wind = up(wind_over_depth(national, b1 + b2, h, sk) * factor, 200 * h);
-    let slide = load_up(slide_over_length(slope, guard), 375 * ls, factor, sk);
+    let wind = up(wind_numerator(national, b1 + b2, h, sk) * factor, 200 * h);
+    let slide = load_up(slide_numerator(slope, guard), 375 * ls, factor, sk);
     wind + slide
 }
 
 // The load at a projection.
-pub fn obstacle_load(h: u64, factor: u64, sk: u64) -> u64
+pub fn projection_load(h: u64, factor: u64, sk: u64) -> u64
     requires { ⌜ (h ≤ 30000) × Ground factor sk ⌝ }
-    ensures { λ r. ⌜ (r ≡ breakLoad 1 (obstacleLoad factor sk h)) × (r ≤ 7200000) ⌝ }
+    ensures { λ r. ⌜ (r ≡ breakLoad parts (projectionLoad factor sk h)) × (r ≤ largestPart) ⌝ }
 {
-    up(obstacle_over_ground(h, sk) * factor, 10)
+    up(projection_numerator(h, sk) * factor, 10)
 }

@@ -4,8 +4,8 @@ ghost use Prim.Native.Nat.{_≤_, _<_, _*_};
 ghost use Rattle.figures.specs.Bounds.{Within, CylindricalIn};
 ghost use Rattle.standard.specs.Coefficients.{driftLength};
 ghost use Rattle.standard.specs.Cylindrical.{wideEnough, loadedWidth};
-use crate::limits::least;
-use crate::limits::most;
+use rounding::least;
+use rounding::most;
 
 // The drift length of a step or a projection: 2h, held to a range (5.3.6, 6.2).
 pub fn drift_length(short: u64, long: u64, h: u64) -> u64

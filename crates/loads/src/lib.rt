@@ -3,16 +3,12 @@
 mod breaks;
 mod coefficients;
 mod lengths;
-mod limits;
 
 pub use breaks::arch_load;
 pub use breaks::eight_tenths_load;
-pub use breaks::obstacle_load;
+pub use breaks::projection_load;
 pub use breaks::slope_load;
 pub use breaks::valley_load;
 pub use breaks::wall_load;
 pub use lengths::drift_length;
 pub use lengths::loaded_width;
-pub use limits::least;
-pub use limits::less;
-pub use limits::most;

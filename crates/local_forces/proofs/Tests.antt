@@ -1,11 +1,12 @@
--- What the calls' tests make of the answers.
-use Prim.Native.Nat.{ℕ, _≤_, _<_}
-use mathlib.Core.Path.{_≡_, refl, _∙_}
-use mathlib.Core.Bool.{Bool, true, false, cond}
-use borrow.Author.Tests.{ne-eqb, eq-eqb, eqb-true, eqb-false, lt-ltb, le-ltb}
-use lib.Dec.{eqb}
-use Rattle.figures.specs.RoofRules.{roofRefusal}
-use Rattle.figures.specs.SiteRules.{siteRefusal}
+-- What the calls' tests make of the answers, and products that fit 64 bits.
+use Prim.Native.Nat.{ℕ, _*_, _≤_, _<_}
+use mathlib.Core.Path.{_≡_, _∙_}
+use mir.Syntax.{w64}
+use mir.Val.{Fits}
+use native.Mathlib.Nat.{mul-le-mul}
+use native.Mathlib.Omega.{arith}
+use borrow.Author.Tests.{ne-eqb, eq-eqb, lt-ltb, le-ltb}
+use Rattle.figures.specs.Refusals.{figuresRefusal}
 use Rattle.figures.specs.declared.site.Site.{Site}
 use Rattle.figures.specs.declared.roof.Slope.{Slope}
 use Rattle.figures.specs.declared.roof.Shape.{Shape}
@@ -15,25 +16,16 @@ use Rattle.rounding.specs.Load.{breakLoad}
 use Rattle.standard.specs.Arrangements.{factorOf}
 use Rattle.standard.specs.Coefficients.{slopeMu}
 use Rattle.standard.specs.Stretch.{loadAlone}
-use Rattle.standard.specs.Forces.{noSlope, someSlope, slopeAt, slopeLoad, wholeLoad, overhangForce, guardForce, force, none, refused, valuesRefusal, overhangAt, overhangAnswer, guardAt, guardAnswer}
+use Rattle.standard.specs.Forces.{SlopeAt, noSlope, someSlope, slopeAt, slopeLoad, wholeLoad, overhangForce, guardForce}
+use Rattle.standard.specs.Forces.{force, none, refused, overhangAt, overhangAnswer, guardAt, guardAnswer}
 
--- the first broken rule, and that there is none
-module _ (site : Site) (roof : Roof) where
-  pub on-site : (k : ℕ) → k ≡ siteRefusal site → (k ≡ 0 → ⊥) → k ≡ valuesRefusal site roof
-  unfolding valuesRefusal
-  on-site k e n = rw (← e, ne-eqb k 0 n)
+-- products of figures up to a million
+module _ (a b : ℕ) (h : a ≤ 1000000) (k : b ≤ 1000000) where
+  pub two-fit : Fits w64 (a * b)
+  two-fit = omega (arith, mul-le-mul h k)
 
-  pub on-roof : (k : ℕ) → siteRefusal site ≡ 0 → k ≡ roofRefusal roof → k ≡ valuesRefusal site roof
-  unfolding valuesRefusal
-  on-roof k h e = rw (h, e)
-
-  pub unbroken : valuesRefusal site roof ≡ 0 → (siteRefusal site ≡ 0) × (roofRefusal roof ≡ 0)
-  unfolding valuesRefusal
-  unbroken = go (eqb (siteRefusal site) 0) refl
-    where
-      go : (b : Bool) → eqb (siteRefusal site) 0 ≡ b → cond b (roofRefusal roof) (siteRefusal site) ≡ 0 → (siteRefusal site ≡ 0) × (roofRefusal roof ≡ 0)
-      go true e h = (eqb-true (siteRefusal site) 0 e, h)
-      go false e h = absurd (eqb-false (siteRefusal site) 0 e h)
+  pub three-fit : (c : ℕ) → c ≤ 1000000 → Fits w64 (a * b * c)
+  three-fit c l = omega (arith, mul-le-mul (mul-le-mul h k) l)
 
 -- the slope of a monopitch roof
 module _ (shape : Shape) (n : ℕ) (slope : Slope) (guard : ℕ) (e : shape ≡ Monopitch slope guard) where
@@ -66,38 +58,48 @@ pub whole-is :
 unfolding wholeLoad slopeLoad
 whole-is site slope guard f r p q = q ∙ rw p
 
--- the answers of the two calls
+-- what the calls answer: the first broken rule, or the force at the slope
 module _ (site : Site) (roof : Roof) (n : ℕ) where
-  pub overhang-refused : (k : ℕ) → k ≡ valuesRefusal site roof → (k ≡ 0 → ⊥) → refused k ≡ overhangAnswer site roof n
+  pub overhang-refused : (k : ℕ) → k ≡ figuresRefusal site roof → (k ≡ 0 → ⊥) → refused k ≡ overhangAnswer site roof n
   unfolding overhangAnswer
   overhang-refused k e h = rw (← e, ne-eqb k 0 h)
 
-  pub guard-refused : (k : ℕ) → k ≡ valuesRefusal site roof → (k ≡ 0 → ⊥) → refused k ≡ guardAnswer site roof n
+  pub overhang-accepted : figuresRefusal site roof ≡ 0 → overhangAt site (slopeAt (roof .shape) n) ≡ overhangAnswer site roof n
+  unfolding overhangAnswer
+  overhang-accepted v = rw v
+
+  pub guard-refused : (k : ℕ) → k ≡ figuresRefusal site roof → (k ≡ 0 → ⊥) → refused k ≡ guardAnswer site roof n
   unfolding guardAnswer
   guard-refused k e h = rw (← e, ne-eqb k 0 h)
 
-  module _ (v : valuesRefusal site roof ≡ 0) where
-    pub overhang-missing : slopeAt (roof .shape) n ≡ noSlope → none ≡ overhangAnswer site roof n
-    unfolding overhangAnswer overhangAt
-    overhang-missing e = rw (v, e)
+  pub guard-accepted : figuresRefusal site roof ≡ 0 → guardAt site (slopeAt (roof .shape) n) ≡ guardAnswer site roof n
+  unfolding guardAnswer
+  guard-accepted v = rw v
 
-    pub guard-missing : slopeAt (roof .shape) n ≡ noSlope → none ≡ guardAnswer site roof n
-    unfolding guardAnswer guardAt
-    guard-missing e = rw (v, e)
+-- the forces at a slope, or at none
+module _ (site : Site) (at : SlopeAt) where
+  pub overhang-missing : at ≡ noSlope → none ≡ overhangAt site at
+  unfolding overhangAt
+  overhang-missing e = rw e
 
-    module _ (slope : Slope) (guard : ℕ) (e : slopeAt (roof .shape) n ≡ someSlope slope guard) where
-      pub overhang-below : site .altitude ≤ 800 → none ≡ overhangAnswer site roof n
-      unfolding overhangAnswer overhangAt
-      overhang-below h = rw (v, e, le-ltb 800 (site .altitude) h)
+  pub guard-missing : at ≡ noSlope → none ≡ guardAt site at
+  unfolding guardAt
+  guard-missing e = rw e
 
-      pub overhang-above : (r : ℕ) → 800 < site .altitude → r ≡ overhangForce (wholeLoad site slope guard) → force r ≡ overhangAnswer site roof n
-      unfolding overhangAnswer overhangAt
-      overhang-above r h f = rw (v, e, lt-ltb 800 (site .altitude) h, f)
+  module _ (slope : Slope) (guard : ℕ) (e : at ≡ someSlope slope guard) where
+    pub overhang-below : site .altitude ≤ 800 → none ≡ overhangAt site at
+    unfolding overhangAt
+    overhang-below h = rw (e, le-ltb 800 (site .altitude) h)
 
-      pub guard-absent : (guard ≡ 1 → ⊥) → none ≡ guardAnswer site roof n
-      unfolding guardAnswer guardAt
-      guard-absent h = rw (v, e, ne-eqb guard 1 h)
+    pub overhang-above : (r : ℕ) → 800 < site .altitude → r ≡ overhangForce (wholeLoad site slope guard) → force r ≡ overhangAt site at
+    unfolding overhangAt
+    overhang-above r h f = rw (e, lt-ltb 800 (site .altitude) h, f)
 
-      pub guard-present : (r : ℕ) → guard ≡ 1 → r ≡ guardForce (wholeLoad site slope guard) (slope .width) (slope .pitch) → force r ≡ guardAnswer site roof n
-      unfolding guardAnswer guardAt
-      guard-present r h f = rw (v, e, eq-eqb guard 1 h, f)
+    pub guard-absent : (guard ≡ 1 → ⊥) → none ≡ guardAt site at
+    unfolding guardAt
+    guard-absent h = rw (e, ne-eqb guard 1 h)
+
+    pub guard-present :
+        (r : ℕ) → guard ≡ 1 → r ≡ guardForce (wholeLoad site slope guard) (slope .width) (slope .pitch) → force r ≡ guardAt site at
+    unfolding guardAt
+    guard-present r h f = rw (e, eq-eqb guard 1 h, f)

@@ -1,4 +1,9 @@
 -- What the answers of the calls stand for.
+use Prim.Native.Nat.{ℕ}
+use mathlib.Core.Path.{_≡_}
+use mathlib.Core.List.{List}
+use Rattle.figures.specs.RoofRules.{shapeRefusal}
+use Rattle.figures.specs.declared.roof.Shape.{Shape}
 use Rattle.standard.specs.Forces.{SlopeAt, noSlope, someSlope, Force, force, none, refused}
 use Rattle.local_forces.specs.declared.answers.LocalForce.{LocalForce}
 use Rattle.local_forces.specs.declared.answers.LocalForce.the-variants.{Newtons, NoForce, Refused}
@@ -15,3 +20,8 @@ forceMeans (Refused k) = refused k
 abbrev pub slopeMeans : RoofSlope → SlopeAt
 slopeMeans (Found slope guard) = someSlope slope guard
 slopeMeans Missing = noSlope
+
+-- a shape that no rule refuses, with some slopes beside it
+pub record AcceptedShape (shape : Shape) : Type 0 where
+  pub slopes : List ℕ
+  pub accepted : shapeRefusal shape slopes ≡ 0

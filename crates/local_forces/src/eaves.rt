@@ -1,14 +1,15 @@
 // The overhang at an eave (6.3).
 ghost use mathlib.Core.Path.{_≡_};
 ghost use Prim.Native.Nat.{_≤_};
-ghost use Rattle.local_forces.specs.Answers.{forceMeans};
-ghost use Rattle.standard.specs.Forces.{overhangForce, overhangAnswer};
+ghost use Rattle.figures.specs.SiteRules.{siteRefusal};
+ghost use Rattle.local_forces.specs.Answers.{forceMeans, AcceptedShape};
+ghost use Rattle.standard.specs.Forces.{slopeAt, overhangForce, overhangAt, overhangAnswer, overhangDistance};
 use crate::answers::LocalForce;
-use crate::rules::values_refusal;
 use crate::slopes::RoofSlope;
 use crate::slopes::slope_of;
 use crate::slopes::whole_load;
 use figures::Roof;
+use figures::Shape;
 use figures::Site;
 
 // Overhangs count above this altitude, in m.
@@ -21,18 +22,14 @@ fn overhang_of(s: u64) -> u64
 {
     let limit = 3 * s;
     let force = rounding::ceil_div(s * s * s, 3_000_000);
-    loads::least(limit, force)
+    rounding::least(limit, force)
 }
 
-// The overhang at the eave of a slope.
-pub fn overhang(site: Site, roof: Roof, slope: u8) -> LocalForce
-    ensures { λ r. ⌜ forceMeans r ≡ overhangAnswer site roof slope ⌝ }
+// The overhang at the eave of a slope of accepted figures.
+pub fn overhang_at(site: Site, shape: Shape, slope: u8) -> LocalForce
+    requires { ⌜ (siteRefusal site ≡ 0) × AcceptedShape shape ⌝ }
+    ensures { λ r. ⌜ forceMeans r ≡ overhangAt site (slopeAt shape slope) ⌝ }
 {
-    let refusal = values_refusal(site, roof);
-    if refusal != 0 {
-        return LocalForce::Refused(refusal);
-    }
-    let shape = roof.shape;
     let RoofSlope::Found { slope: side, guard } = slope_of(shape, slope) else {
         return LocalForce::NoForce;
     };
@@ -40,4 +37,17 @@ pub fn overhang(site: Site, roof: Roof, slope: u8) -> LocalForce
         return LocalForce::NoForce;
     }
     LocalForce::Newtons(overhang_of(whole_load(site, side, guard)) as u32)
+}
+
+// The overhang at the eave of a slope.
+pub fn overhang(site: Site, roof: Roof, slope: u8) -> LocalForce
+    ensures answer { λ r. ⌜ forceMeans r ≡ overhangAnswer site roof slope ⌝ }
+    ensures distance { λ r. ⌜ overhangDistance (forceMeans r) site (slopeAt (roof .shape) slope) ⌝ }
+{
+    let number = figures::refusal(site, roof);
+    if number != 0 {
+        return LocalForce::Refused(number);
+    }
+    let shape = roof.shape;
+    overhang_at(site, shape, slope)
 }

@@ -2,16 +2,17 @@
 ghost use mathlib.Core.Path.{_≡_};
 ghost use Prim.Native.Nat.{_≤_};
 ghost use Rattle.figures.specs.Bounds.{SlopeIn};
-ghost use Rattle.local_forces.specs.Answers.{forceMeans};
+ghost use Rattle.figures.specs.SiteRules.{siteRefusal};
+ghost use Rattle.local_forces.specs.Answers.{forceMeans, AcceptedShape};
 ghost use Rattle.rounding.specs.Up.{ceilDiv};
-ghost use Rattle.standard.specs.Forces.{guardForce, guardAnswer};
+ghost use Rattle.standard.specs.Forces.{slopeAt, guardForce, guardAt, guardAnswer, guardDistance};
 use crate::answers::LocalForce;
-use crate::rules::values_refusal;
 use crate::sine::sine;
 use crate::slopes::RoofSlope;
 use crate::slopes::slope_of;
 use crate::slopes::whole_load;
 use figures::Roof;
+use figures::Shape;
 use figures::Site;
 use figures::Slope;
 
@@ -30,15 +31,11 @@ fn sliding_force(s: u64, slope: Slope) -> u64
     whole_number(s * slope.width as u64 * sine(slope.pitch))
 }
 
-// The force at the guard of a slope.
-pub fn guard_force(site: Site, roof: Roof, slope: u8) -> LocalForce
-    ensures { λ r. ⌜ forceMeans r ≡ guardAnswer site roof slope ⌝ }
+// The force at the guard of a slope of accepted figures.
+pub fn guard_force_at(site: Site, shape: Shape, slope: u8) -> LocalForce
+    requires { ⌜ (siteRefusal site ≡ 0) × AcceptedShape shape ⌝ }
+    ensures { λ r. ⌜ forceMeans r ≡ guardAt site (slopeAt shape slope) ⌝ }
 {
-    let refusal = values_refusal(site, roof);
-    if refusal != 0 {
-        return LocalForce::Refused(refusal);
-    }
-    let shape = roof.shape;
     let RoofSlope::Found { slope: side, guard } = slope_of(shape, slope) else {
         return LocalForce::NoForce;
     };
@@ -46,4 +43,17 @@ pub fn guard_force(site: Site, roof: Roof, slope: u8) -> LocalForce
         return LocalForce::NoForce;
     }
     LocalForce::Newtons(sliding_force(whole_load(site, side, guard), side) as u32)
+}
+
+// The force at the guard of a slope.
+pub fn guard_force(site: Site, roof: Roof, slope: u8) -> LocalForce
+    ensures answer { λ r. ⌜ forceMeans r ≡ guardAnswer site roof slope ⌝ }
+    ensures distance { λ r. ⌜ guardDistance (forceMeans r) site (slopeAt (roof .shape) slope) ⌝ }
+{
+    let number = figures::refusal(site, roof);
+    if number != 0 {
+        return LocalForce::Refused(number);
+    }
+    let shape = roof.shape;
+    guard_force_at(site, shape, slope)
 }

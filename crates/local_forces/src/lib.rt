@@ -2,10 +2,11 @@
 mod answers;
 mod eaves;
 mod guards;
-mod rules;
 mod sine;
 mod slopes;
 
 pub use answers::LocalForce;
 pub use eaves::overhang;
+pub use eaves::overhang_at;
 pub use guards::guard_force;
+pub use guards::guard_force_at;

@@ -809,7 +809,7 @@ const SINE: [u32; 801] = [
 ];
 
 // The sine of a pitch in tenths of a degree, in millionths.
-pub fn sine(pitch: u16) -> u64
+pub fn sine(pitch: u32) -> u64
     requires { ⌜ pitch ≤ 800 ⌝ }
     ensures { λ r. ⌜ r ≡ sineEntry pitch ⌝ }
 {

@@ -64,7 +64,7 @@ pub fn whole_load(site: Site, slope: Slope, guard: u8) -> u64
         slope,
         guard,
         false,
-        segments::factor(site, UNDRIFTED),
+        codes::factor(site, UNDRIFTED),
         site.sk as u64,
     )
 }

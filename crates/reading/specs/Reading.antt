@@ -1,5 +1,5 @@
 -- What the call that reads a load at a station answers, and how far a load that it answers lies above the exact rule.
-use Prim.Native.Nat.{ℕ, _-_}
+use Prim.Native.Nat.{ℕ, _-_, _≤_}
 use mathlib.Core.Bool.{cond}
 use Rattle.figures.specs.declared.site.Site.{Site}
 use Rattle.figures.specs.declared.roof.Roof.{Roof}
@@ -25,3 +25,9 @@ valueOf r start p = cond (holds start (r .extent) p) (readRamp r (p - start)) 0
 abbrev pub distanceOf : Site → Roof → ℕ → ℕ → Reading → Type 0
 distanceOf site roof code p (Load x) = Near x (exactAt recommendedFigures site roof code p)
 distanceOf site roof code p (Refused number) = Unit
+
+-- of two loads, the second is no less; a refusal owes nothing
+abbrev pub InOrder : Reading → Reading → Type 0
+InOrder (Load x) (Load y) = x ≤ y
+InOrder (Load x) (Refused number) = Unit
+InOrder (Refused number) b = Unit

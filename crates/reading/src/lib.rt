@@ -1,16 +1,18 @@
 // The load at a station of a roof under one arrangement, worked from the figures.
 ghost use mathlib.Core.Path.{_≡_};
 ghost use Prim.Native.Nat.{_≤_};
-ghost use Rattle.figures.specs.Bounds.{ShapeIn};
-ghost use Rattle.loads.specs.Sizes.{Ground};
+ghost use Rattle.figures.specs.RoofRules.{roofOf};
 ghost use Rattle.reading.specs.Reading.{readingMeans, valueOf, distanceOf};
 ghost use Rattle.segments.specs.Ramps.{RampIn};
-ghost use Rattle.standard.specs.Answers.{loadAnswer};
-ghost use Rattle.standard.specs.Arrangements.{countIn, stretchIn};
-ghost use Rattle.standard.specs.Bounds.{NationalIn};
+ghost use Rattle.standard.specs.Answers.{stationAnswer, loadAnswer};
+ghost use Rattle.standard.specs.Arrangements.{count, stretch};
+ghost use Rattle.standard.specs.Bounds.{FiguresIn};
 ghost use Rattle.standard.specs.Coefficients.{recommendedFigures};
 ghost use Rattle.standard.specs.Stretch.{greatest};
+ghost use Rattle.standard.specs.Units.{largestPosition, largestLoad};
 use figures::Roof;
+use figures::SLOPE_NUMBERS;
+use figures::Shape;
 use figures::Site;
 use segments::Ramp;
 use standard::National;
@@ -26,8 +28,8 @@ pub enum Reading {
 
 // What a segment that starts at start reads at a station, 0 where it does not hold the station.
 fn read(ramp: Ramp, start: u64, station: u64) -> u64
-    requires { ⌜ RampIn ramp × (start ≤ 12800000) ⌝ }
-    ensures { λ r. ⌜ (r ≡ valueOf ramp start station) × (r ≤ 14400000) ⌝ }
+    requires { ⌜ RampIn ramp × (start ≤ largestPosition) ⌝ }
+    ensures { λ r. ⌜ (r ≡ valueOf ramp start station) × (r ≤ largestLoad) ⌝ }
 {
     if station < start {
         return 0;
@@ -41,26 +43,42 @@ fn read(ramp: Ramp, start: u64, station: u64) -> u64
 // The greatest reading over the n segments that hold the station.
 fn greatest_reading(
     national: National,
-    roof: Roof,
+    site: Site,
+    shape: Shape,
+    slopes: &[u32; SLOPE_NUMBERS],
     code: u8,
-    factor: u64,
-    sk: u64,
     n: usize,
     station: u64,
 ) -> u64
-    requires { ⌜ NationalIn national × ShapeIn (roof .shape) (roof .spans) × Ground factor sk × (n ≡ countIn national (roof .shape) code) × (n ≤ 32) ⌝ }
-    ensures { λ r. ⌜ (r ≡ greatest (stretchIn national (roof .shape) (roof .spans) factor sk code) station n) × (r ≤ 14400000) ⌝ }
+    requires { ⌜ FiguresIn national site (roofOf shape (now slopes)) × (n ≡ count national (roofOf shape (now slopes)) code) ⌝ }
+    ensures { λ r. ⌜ (r ≡ greatest (stretch national site (roofOf shape (now (slopes .entry))) code) station n) × (r ≤ largestLoad) ⌝ }
 {
     let mut load: u64 = 0;
     let mut start: u64 = 0;
     let mut i = 0;
     while i < n {
-        let ramp = segments::ramp_at(national, roof, code, factor, sk, i);
-        load = loads::most(load, read(ramp, start, station));
+        let ramp = segments::ramp_at(national, site, shape, slopes, code, i);
+        load = rounding::most(load, read(ramp, start, station));
         start += ramp.extent;
         i += 1;
     }
     load
+}
+
+// The load at a station of accepted figures, where it lies on the roof.
+fn load_accepted(site: Site, roof: Roof, code: u8, station: u32) -> Reading
+    requires { ⌜ FiguresIn recommendedFigures site roof ⌝ }
+    ensures { λ r. ⌜ readingMeans r ≡ stationAnswer recommendedFigures site roof code station ⌝ }
+{
+    let national = standard::recommended();
+    let shape = roof.shape;
+    let slopes = roof.slopes;
+    if segments::end(shape, &slopes) < station as u64 {
+        return Reading::Refused(PAST_THE_END);
+    }
+    let n = segments::count(national, site, shape, &slopes, code);
+    let load = greatest_reading(national, site, shape, &slopes, code, n, station as u64);
+    Reading::Load(load as u32)
 }
 
 // The load at a station in quarter millimetres from the roof's left end, or the first broken rule.
@@ -68,25 +86,9 @@ pub fn load_at(site: Site, roof: Roof, code: u8, station: u32) -> Reading
     ensures answer { λ r. ⌜ readingMeans r ≡ loadAnswer recommendedFigures site roof code station ⌝ }
     ensures distance { λ r. ⌜ distanceOf site roof code station r ⌝ }
 {
-    let number = segments::refusal(site, roof, code);
+    let number = codes::refusal(site, roof, code);
     if number != 0 {
         return Reading::Refused(number);
     }
-    if segments::end(roof) < station as u64 {
-        return Reading::Refused(PAST_THE_END);
-    }
-    let national = standard::recommended();
-    let base = segments::base_code(code);
-    let n = segments::count(national, roof, base);
-    let factor = segments::factor(site, code);
-    let load = greatest_reading(
-        national,
-        roof,
-        base,
-        factor,
-        site.sk as u64,
-        n,
-        station as u64,
-    );
-    Reading::Load(load as u32)
+    load_accepted(site, roof, code, station)
 }

@@ -1,3 +1,3 @@
 pub mod Rounding
 pub mod Ramps
-pub mod Limits
+pub mod Limited

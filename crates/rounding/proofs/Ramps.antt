@@ -4,18 +4,33 @@ use Prim.Native.Nat.{ℕ, _+_, _-_, _*_, _≤_, _<_}
 use native.Mathlib.Nat.{le-of-lt, mul-le-mul-right, mul-lt-mul-of-pos-right, mul-pos, sub-add-cancel}
 use native.Mathlib.Omega.{arith}
 use Rattle.rounding.specs.Fraction.{Fraction, AtMost, Under, Below, Close, over, sum}
-use Rattle.rounding.specs.Load.{Load, Positive, exact, breakLoad}
+use Rattle.rounding.specs.Load.{Load, Positive, alone, exact, breakLoad}
 use Rattle.rounding.specs.Ramp.{line, reading}
 use Rattle.rounding.specs.Up.{ceilDiv, roundedUp}
-use Rattle.rounding.proofs.Rounding.{reaches, near, least, whole, mono, up-close, up-mono}
+use Rattle.rounding.proofs.Rounding.{reaches, near, least, whole, mono, up-close, up-mono, up-nothing}
 
--- At one grain to the whole, the count is the number itself.
+-- Figures. Each part of a load is rounded by itself: two halves come to two.
+pub two-halves : breakLoad 1 (record { first = over 1 2; second = over 1 2 }) ≡ 2
+unfolding breakLoad exact sum roundedUp ceilDiv
+two-halves = refl
+
+-- Each part counts once: one and two come to three.
+pub one-and-two : breakLoad 1 (record { first = over 1 1; second = over 2 1 }) ≡ 3
+unfolding breakLoad exact sum roundedUp ceilDiv
+one-and-two = refl
+
+-- A reading is rounded up: half-way from 0 to 1 it is 1.
+pub half-way : reading 0 1 2 1 ≡ 1
+unfolding reading ceilDiv
+half-way = refl
+
+-- With one part to one, the count is the number itself.
 pub close-whole : (k r : ℕ) (f : Fraction) → Close 1 k r f → AtMost f r × Under r f k
 unfolding AtMost Under
 close-whole k r f c = (omega arith, omega arith)
 
 -- Errors add.
-pub sum-close : {g k l r s : ℕ} {e f : Fraction} → Close g k r e → Close g l s f → 0 < e .den → 0 < f .den → Close g (k + l) (r + s) (sum e f)
+sum-close : {g k l r s : ℕ} {e f : Fraction} → Close g k r e → Close g l s f → 0 < e .den → 0 < f .den → Close g (k + l) (r + s) (sum e f)
 unfolding sum
 sum-close {e = e} {f = f} p q he hf =
     record {
@@ -27,16 +42,18 @@ pub exact-positive : (l : Load) → Positive l → 0 < exact l .den
 unfolding exact sum
 exact-positive l h = mul-pos (h .first) (h .second)
 
--- Each part is rounded by itself: two halves come to two.
-pub two-halves : breakLoad 1 (record { first = over 1 2; second = over 1 2 }) ≡ 2
-unfolding breakLoad exact sum roundedUp ceilDiv
-two-halves = refl
+-- A load of one part is that part rounded up.
+pub break-alone : (g : ℕ) (f : Fraction) → breakLoad g (alone f) ≡ roundedUp g f
+unfolding breakLoad
+break-alone g f = omega (arith, up-nothing g)
 
 pub break-close : (g : ℕ) (l : Load) → Positive l → Close g 2 (breakLoad g l) (exact l)
 unfolding breakLoad exact
 break-close g l h = sum-close (up-close g (l .first) (h .first)) (up-close g (l .second) (h .second)) (h .first) (h .second)
 
-pub break-mono : (g : ℕ) (l l' : Load) → Positive l → Positive l' → Below (l .first) (l' .first) → Below (l .second) (l' .second) → breakLoad g l ≤ breakLoad g l'
+pub break-mono :
+    (g : ℕ) (l l' : Load) → Positive l → Positive l' → Below (l .first) (l' .first) → Below (l .second) (l' .second)
+    → breakLoad g l ≤ breakLoad g l'
 unfolding breakLoad
 break-mono g l l' h h' p q =
     omega (arith, up-mono g (l .first) (l' .first) (h .first) (h' .first) p, up-mono g (l .second) (l' .second) (h .second) (h' .second) q)
@@ -45,7 +62,8 @@ pub line-positive : (e f : Fraction) (full x : ℕ) → 0 < e .den → 0 < f .de
 unfolding line
 line-positive e f full x he hf h = mul-pos (mul-pos he hf) h
 
--- The line over a length x + y, y along it, rounded up to r: each end's error is weighed as its load is, so the line's is no larger, and rounding adds one grain.
+-- The line over a length x + y, y along it, rounded up to r.
+-- Each end's error is weighed as its load is, so the line's is no larger, and rounding adds less than 1.
 module _ (g a b n m d e x y r : ℕ) where
   line-low : g * n ≤ a * d → g * m ≤ b * e → a * x + b * y ≤ r * (x + y) → g * (n * e * x + m * d * y) ≤ r * (d * e * (x + y))
   line-low p q h = omega (arith, mul-le-mul-right (e * x) p, mul-le-mul-right (d * y) q, mul-le-mul-right (d * e) h)
@@ -60,7 +78,7 @@ module _ (g a b n m d e x y r : ℕ) where
       omega arith
 
 -- In the exact line's denominator alone, the full length is put for the sum of its two parts.
-pub reading-close :
+reading-close :
     {g k F T : ℕ} {e f : Fraction} (full x : ℕ) → Close g k F e → Close g k T f → 0 < e .den → 0 < f .den → 0 < full → x ≤ full
     → Close g (k + 1) (reading F T full x) (line e f full x)
 unfolding reading line
@@ -79,7 +97,7 @@ pub ramp-close :
 ramp-close g from to full x p q h hx =
     reading-close full x (break-close g from p) (break-close g to q) (exact-positive from p) (exact-positive to q) h hx
 
-pub reading-mono : {F F' T T' : ℕ} (full x : ℕ) → F ≤ F' → T ≤ T' → 0 < full → reading F T full x ≤ reading F' T' full x
+reading-mono : {F F' T T' : ℕ} (full x : ℕ) → F ≤ F' → T ≤ T' → 0 < full → reading F T full x ≤ reading F' T' full x
 unfolding reading
 reading-mono full x p q h = mono _ _ full h (omega (arith, mul-le-mul-right (full - x) p, mul-le-mul-right x q))
 
@@ -106,7 +124,3 @@ module _ (F T full : ℕ) (h : 0 < full) where
   pub reading-most : (x m : ℕ) → x ≤ full → F ≤ m → T ≤ m → reading F T full x ≤ m
   unfolding reading
   reading-most x m hx p q = least _ full m h (omega (arith, shares m full x hx, mul-le-mul-right (full - x) p, mul-le-mul-right x q))
-
-pub reading-even : (F full x : ℕ) → 0 < full → x ≤ full → reading F F full x ≡ F
-unfolding reading
-reading-even F full x h hx = whole _ full F h (shares F full x hx)

@@ -3,7 +3,7 @@ use mathlib.Core.Path.{_≡_, sym}
 use Prim.Native.Nat.{ℕ, _+_, _-_, _*_, _≤_, _<_}
 use native.Mathlib.Nat.{div-zero, div-mul-le-self, lt-div-mul-add, le-of-mul-le-mul-right, lt-of-mul-lt-mul-right, mul-le-mul-left, mul-le-mul-right}
 use native.Mathlib.Omega.{arith}
-use Rattle.rounding.specs.Fraction.{Fraction, Below, Same, Close}
+use Rattle.rounding.specs.Fraction.{Fraction, over, Below, Same, Close}
 use Rattle.rounding.specs.Up.{ceilDiv, roundedUp}
 
 -- These two say all that the laws below need of `ceilDiv`: it reaches the quotient, and is less than 1 above it.
@@ -48,7 +48,7 @@ cross n d m e hd he p =
     let r : n * e ≤ ceilDiv m e * d * e = omega (arith, mul-le-mul-right d (reaches m e he)) in
     least n d (ceilDiv m e) hd (le-of-mul-le-mul-right r he)
 
--- The same of a fraction rounded up to a whole grain.
+-- The same of a fraction that is counted in parts, g to one.
 pub up-close : (g : ℕ) (f : Fraction) → 0 < f .den → Close g 1 (roundedUp g f) f
 unfolding roundedUp
 up-close g f h = record { low = reaches (g * f .num) (f .den) h; high = omega (arith, near (g * f .num) (f .den) h) }
@@ -60,6 +60,11 @@ up-least g r f h p = least (g * f .num) (f .den) r h p
 pub up-mono : (g : ℕ) (e f : Fraction) → 0 < e .den → 0 < f .den → Below e f → roundedUp g e ≤ roundedUp g f
 unfolding roundedUp Below
 up-mono g e f he hf p = cross (g * e .num) (e .den) (g * f .num) (f .den) he hf (omega (arith, mul-le-mul-left g p))
+
+-- 0 is rounded up to 0.
+pub up-nothing : (g : ℕ) → roundedUp g (over 0 1) ≡ 0
+unfolding roundedUp
+up-nothing g = whole (g * 0) 1 0 (omega arith) (omega arith)
 
 -- One number in two forms is rounded up to one.
 pub same-below : (e f : Fraction) → Same e f → Below e f

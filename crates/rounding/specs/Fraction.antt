@@ -27,7 +27,7 @@ Below e f = e .num * f .den ≤ f .num * e .den
 unfoldable pub Same : Fraction → Fraction → Type 0
 Same e f = e .num * f .den ≡ f .num * e .den
 
--- r counts grains, g to the whole: f ≤ r/g < f + k/g
+-- r is counted in parts, g to one: f ≤ r/g < f + k/g
 pub record Close (g k r : ℕ) (f : Fraction) : Type 0 where
   pub low : g * f .num ≤ r * f .den
   pub high : r * f .den < g * f .num + k * f .den

@@ -20,6 +20,6 @@ pub record Positive (l : Load) : Type 0 where
 unfoldable pub exact : Load → Fraction
 exact l = sum (l .first) (l .second)
 
--- the load in grains, g to the whole: each part rounded up, and added
+-- the load counted in parts, g to the N/m²: first and second are each rounded up, and added
 unfoldable pub breakLoad : ℕ → Load → ℕ
 breakLoad g l = roundedUp g (l .first) + roundedUp g (l .second)

@@ -6,6 +6,6 @@ use Rattle.rounding.specs.Fraction.{Fraction}
 unfoldable pub ceilDiv : ℕ → ℕ → ℕ
 ceilDiv n d = (n + (d - 1)) / d
 
--- f in grains, g to the whole, rounded up to a whole grain
+-- f counted in parts, g to one, and rounded up
 unfoldable pub roundedUp : ℕ → Fraction → ℕ
 roundedUp g f = ceilDiv (g * f .num) (f .den)

@@ -37,7 +37,7 @@ fn larger(a: Ratio, b: Ratio) -> Ratio {
 }
 
 // μ1 without a guard: 0.8 up to 30°; 0.8(60 − α)/30 between; 0 from 60°.
-fn bare_slope(pitch: u16) -> Ratio {
+fn bare_slope(pitch: u32) -> Ratio {
     if pitch <= 300 {
         return EIGHT_TENTHS;
     }
@@ -45,13 +45,13 @@ fn bare_slope(pitch: u16) -> Ratio {
         return NOTHING;
     }
     Ratio {
-        num: 8 * (600 - pitch as u32),
+        num: 8 * (600 - pitch),
         den: 3_000,
     }
 }
 
 // μ1: with a guard never below 0.8.
-pub fn on_slope(pitch: u16, guard: u8) -> Ratio {
+pub fn on_slope(pitch: u32, guard: u8) -> Ratio {
     if guard == 1 {
         larger(bare_slope(pitch), EIGHT_TENTHS)
     } else {
@@ -60,11 +60,11 @@ pub fn on_slope(pitch: u16, guard: u8) -> Ratio {
 }
 
 // μ2 of the mean of a valley's two pitches: 0.8 + 0.8α/30 up to 30°, then 1.6.
-pub fn in_valley(left: u16, right: u16) -> Ratio {
-    let twice = left as u32 + right as u32;
+pub fn in_valley(left: u32, right: u32) -> Ratio {
+    let twice = sum(left, right);
     smaller(
         Ratio {
-            num: 4_800 + 8 * twice,
+            num: sum(4_800, multiple(8, twice)),
             den: 6_000,
         },
         Ratio { num: 16, den: 10 },
@@ -97,7 +97,7 @@ pub fn by_wind(b1: u32, b2: u32, h: u32, sk: u32) -> Ratio {
 }
 
 // μs: 0 up to 15.0°; above that μ1 × slope width/ls.
-pub fn by_sliding(pitch: u16, guard: u8, width: u32, length: u32) -> Ratio {
+pub fn by_sliding(pitch: u32, guard: u8, width: u32, length: u32) -> Ratio {
     if pitch <= 150 {
         return NOTHING;
     }

@@ -45,7 +45,7 @@ fn pitch_width_guard(shape: Shape, number: u8) -> [u32; 3] {
 }
 
 fn figures_of(slope: Slope, guard: u8) -> [u32; 3] {
-    [slope.pitch as u32, slope.width, guard as u32]
+    [slope.pitch, slope.width, guard as u32]
 }
 
 // The segment of a slope in code 1.

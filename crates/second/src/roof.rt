@@ -70,7 +70,7 @@ pub fn segment_at(roof: Roof, code: u8, sk: u32, i: usize) -> Segment
 {
     let base = persistent(code);
     let shape = roof.shape;
-    let spans = roof.spans;
+    let slopes = roof.slopes;
     match shape {
         Shape::Monopitch { slope, guard } => on_monopitch(slope, guard),
         Shape::Pitched {
@@ -85,7 +85,7 @@ pub fn segment_at(roof: Roof, code: u8, sk: u32, i: usize) -> Segment
                 on_right(left, right, right_guard, base)
             }
         }
-        Shape::MultiSpan { count } => on_spans(spans, slope_count(count), base, i),
+        Shape::MultiSpan { count } => on_spans(&slopes, slope_count(count), base, i),
         Shape::Cylindrical { rise, span } => on_cylinder(rise, span, base, i),
         Shape::Abutting {
             b1,
@@ -107,11 +107,11 @@ pub fn segment_at(roof: Roof, code: u8, sk: u32, i: usize) -> Segment
 // The roof's end in quarter millimetres.
 pub fn roof_end(roof: Roof) -> u32 {
     let shape = roof.shape;
-    let spans = roof.spans;
+    let slopes = roof.slopes;
     match shape {
         Shape::Monopitch { slope, .. } => quarters(slope.width),
         Shape::Pitched { left, right, .. } => quarters(sum(left.width, right.width)),
-        Shape::MultiSpan { count } => slope_start(spans, slope_count(count)),
+        Shape::MultiSpan { count } => slope_start(&slopes, slope_count(count)),
         Shape::Cylindrical { span, .. } => quarters(span),
         Shape::Abutting { b2, .. } => quarters(b2),
         Shape::Projection { left, right, .. } => quarters(sum(left, right)),

@@ -9,8 +9,8 @@ use super::figure::sum;
 use super::segment::Segment;
 use super::segment::even;
 use super::segment::uncut;
+use figures::SLOPE_NUMBERS;
 use figures::Slope;
-use figures::Span;
 
 // Kind 2: μ1.
 pub fn on_monopitch(slope: Slope, guard: u8) -> Segment {
@@ -35,23 +35,24 @@ pub fn on_right(left: Slope, right: Slope, guard: u8, code: u8) -> Segment {
     even(ridge, end, halved_if(code == 3, ratio))
 }
 
-// The slope at an index, from the left: even ones rise to a ridge, odd ones fall to a valley.
-fn slope_at(spans: [Span; 16], i: usize) -> Slope
+// The slope at an index, from the left, from its two numbers: even ones rise to a ridge, odd ones fall to a valley.
+fn slope_at(slopes: &[u32; SLOPE_NUMBERS], i: usize) -> Slope
     requires { ⌜ i < 32 ⌝ }
 {
-    let k = i / 2;
-    let span = spans[k];
-    if i % 2 == 0 { span.left } else { span.right }
+    Slope {
+        pitch: slopes[2 * i],
+        width: slopes[2 * i + 1],
+    }
 }
 
 // Where the slope at an index starts.
-pub fn slope_start(spans: [Span; 16], i: usize) -> u32
+pub fn slope_start(slopes: &[u32; SLOPE_NUMBERS], i: usize) -> u32
     requires { ⌜ i ≤ 32 ⌝ }
 {
     let mut start = 0;
     let mut k = 0;
     while k < i {
-        let slope = slope_at(spans, k);
+        let slope = slope_at(slopes, k);
         start = sum(start, quarters(slope.width));
         k += 1;
     }
@@ -59,26 +60,26 @@ pub fn slope_start(spans: [Span; 16], i: usize) -> u32
 }
 
 // Kind 4, code 2, between the first slope and the last: μ1 at the ridge, μ2 of the mean of the two pitches at the valley.
-fn to_valley(spans: [Span; 16], i: usize, start: u32, end: u32) -> Segment
+fn to_valley(slopes: &[u32; SLOPE_NUMBERS], i: usize, start: u32, end: u32) -> Segment
     requires { ⌜ (0 < i) × (i < 31) ⌝ }
 {
-    let slope = slope_at(spans, i);
+    let slope = slope_at(slopes, i);
     let ridge = on_slope(slope.pitch, 0);
     if i % 2 == 0 {
-        let before = slope_at(spans, i - 1);
+        let before = slope_at(slopes, i - 1);
         uncut(start, end, in_valley(before.pitch, slope.pitch), ridge)
     } else {
-        let after = slope_at(spans, i + 1);
+        let after = slope_at(slopes, i + 1);
         uncut(start, end, ridge, in_valley(slope.pitch, after.pitch))
     }
 }
 
 // Kind 4: code 1 and the two outer slopes are even at μ1.
-pub fn on_spans(spans: [Span; 16], slopes: usize, code: u8, i: usize) -> Segment
-    requires { ⌜ (i < 32) × (slopes ≤ 32) ⌝ }
+pub fn on_spans(slopes: &[u32; SLOPE_NUMBERS], count: usize, code: u8, i: usize) -> Segment
+    requires { ⌜ (i < 32) × (count ≤ 32) ⌝ }
 {
-    let slope = slope_at(spans, i);
-    let start = slope_start(spans, i);
+    let slope = slope_at(slopes, i);
+    let start = slope_start(slopes, i);
     let end = sum(start, quarters(slope.width));
     let plain = even(start, end, on_slope(slope.pitch, 0));
     if code == 1 {
@@ -87,8 +88,8 @@ pub fn on_spans(spans: [Span; 16], slopes: usize, code: u8, i: usize) -> Segment
     if i == 0 {
         return plain;
     }
-    if slopes <= i + 1 {
+    if count <= i + 1 {
         return plain;
     }
-    to_valley(spans, i, start, end)
+    to_valley(slopes, i, start, end)
 }

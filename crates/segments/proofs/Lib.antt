@@ -1,5 +1,6 @@
+pub mod Grounds
 pub mod Rows
-pub mod Rules
 pub mod Shapes
 pub mod Slopes
+pub mod Starts
 pub mod Stretches

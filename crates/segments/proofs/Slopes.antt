@@ -1,22 +1,21 @@
--- The slopes of a multi-span roof: which end is a valley, and what accepted spans keep.
-use Prim.Native.Nat.{ℕ, _+_, _-_, _*_, _/_, _%_, _≤_, _<_}
+-- The slopes of a multi-span roof: which end is a valley, and what its loads are.
+use Prim.Native.Nat.{ℕ, _+_, _-_, _*_, _%_, _≤_, _<_}
 use mathlib.Core.Path.{_≡_, refl}
 use mathlib.Core.Bool.{Bool, true, false, cond, _||_}
 use mathlib.Core.List.{List}
 use borrow.Author.Tests.{eqb-true, eqb-false}
 use lib.Dec.{eqb}
-use native.Mathlib.Nat.{add-comm, div-lt-iff-lt-mul}
+use native.Mathlib.Nat.{add-comm}
 use native.Mathlib.Numerals.{add-one}
 use native.Mathlib.Omega.{arith}
-use Rattle.figures.specs.Bounds.{SlopeIn, MultiSpanIn}
-use Rattle.figures.specs.RoofRules.{spanAt}
+use Rattle.figures.specs.Bounds.{SlopeIn}
+use Rattle.figures.specs.RoofRules.{slopeOf}
 use Rattle.figures.specs.declared.roof.Slope.{Slope}
-use Rattle.figures.specs.declared.roof.Span.{Span}
 use Rattle.rounding.specs.Load.{breakLoad}
-use Rattle.standard.proofs.MultiSpan.{slope-in}
 use Rattle.standard.specs.Coefficients.{mu1, valleyMu}
-use Rattle.standard.specs.MultiSpan.{slopeOf, ownLoad, valleyLoad, multiSpanFrom, multiSpanTo, multiSpan, widths}
+use Rattle.standard.specs.MultiSpan.{ownLoad, valleyLoad, multiSpanFrom, multiSpanTo, multiSpan, widths}
 use Rattle.standard.specs.Stretch.{loadAlone}
+use Rattle.standard.specs.Units.{parts, largestPart}
 use Rattle.segments.specs.Ramps.{rampOf, RampIn}
 use Rattle.segments.proofs.Stretches.{made, made-is, made-in}
 
@@ -27,11 +26,11 @@ none false true c h = let z : _≡_ {A = ℕ} 0 1 = cc in absurd (omega arith)
 none false false c h = (refl, refl, h)
 
 -- a slope of the roof and its own load
-pub record Own (factor sk : ℕ) (l : List Span) (i : ℕ) (s : Slope) (x : ℕ) : Type 0 where
+pub record Own (factor sk : ℕ) (l : List ℕ) (i : ℕ) (s : Slope) (x : ℕ) : Type 0 where
   pub slope : s ≡ slopeOf l i
   pub within : SlopeIn s
-  pub load : x ≡ breakLoad 1 (loadAlone (mu1 (s .pitch)) factor sk)
-  pub most : x ≤ 7200000
+  pub load : x ≡ breakLoad parts (loadAlone (mu1 (s .pitch)) factor sk)
+  pub most : x ≤ largestPart
 
 module _ (undrifted : Bool) (i count : ℕ) where
   -- the first and the last slope, and every one in code 1
@@ -53,21 +52,21 @@ module _ (undrifted : Bool) (i count : ℕ) where
       let n = none undrifted (eqb i 0) (eqb (i + 1) (2 * count)) h in
       (omega (arith, eqb-false i 0 (n .1)), eqb-false (i + 1) (2 * count) (n .2))
 
-  module _ (factor sk : ℕ) (l : List Span) (s : Slope) (x : ℕ) (own : Own factor sk l i s x) where
+  module _ (factor sk : ℕ) (l : List ℕ) (s : Slope) (x : ℕ) (own : Own factor sk l i s x) where
     abbrev Made : ℕ → ℕ → Type 0
     Made from to =
         (made (4 * s .width) 0 (4 * s .width) from to ≡ rampOf (multiSpan factor sk l count undrifted i))
         × RampIn (made (4 * s .width) 0 (4 * s .width) from to)
 
     between :
-        (from to : ℕ) → from ≡ breakLoad 1 (multiSpanFrom factor sk l undrifted i) → to ≡ breakLoad 1 (multiSpanTo factor sk l count undrifted i)
-        → from ≤ 7200000 → to ≤ 7200000 → Made from to
+        (from to : ℕ) → from ≡ breakLoad parts (multiSpanFrom factor sk l undrifted i) → to ≡ breakLoad parts (multiSpanTo factor sk l count undrifted i)
+        → from ≤ largestPart → to ≤ largestPart → Made from to
     unfolding multiSpan
     between from to p q a b =
         let w = own .within .width in
         (rw (← own .slope) (made-is _ _ _ _ _ _ _ p q), made-in _ _ _ _ _ (omega (arith, w .low)) (omega arith) (omega (arith, w .high)) (omega arith) (omega arith))
 
-    own-is : x ≡ breakLoad 1 (ownLoad factor sk l i)
+    own-is : x ≡ breakLoad parts (ownLoad factor sk l i)
     unfolding ownLoad
     own-is = rw (← own .slope) (own .load)
 
@@ -79,7 +78,7 @@ module _ (undrifted : Bool) (i count : ℕ) where
 
     -- with the slope across the valley, and the valley's load
     module _ (j : ℕ) (o : Slope) (y : ℕ) (ej : j ≡ cond (eqb (i % 2) 0) (i - 1) (i + 1)) (eo : o ≡ slopeOf l j)
-        (ey : y ≡ breakLoad 1 (loadAlone (valleyMu (s .pitch) (o .pitch)) factor sk)) (most : y ≤ 7200000) (h : level ≡ false) where
+        (ey : y ≡ breakLoad parts (loadAlone (valleyMu (s .pitch) (o .pitch)) factor sk)) (most : y ≤ largestPart) (h : level ≡ false) where
       pub left-ramp : i % 2 ≡ 0 → Made y x
       unfolding multiSpanFrom multiSpanTo valleyLoad
       left-ramp p =
@@ -96,9 +95,6 @@ module _ (undrifted : Bool) (i count : ℕ) where
           let f : j ≡ i + 1 = rw p at ej in
           between x y (rw (n .0, n .1, p) own-is) (rw (n .0, n .2, p, ← f, ← own .slope, ← eo) ey) (own .most) most
 
-pub slopes-in : (n : ℕ) (l : List Span) → MultiSpanIn n l → (i : ℕ) → i < 2 * n → SlopeIn (slopeOf l i)
-slopes-in n l h i lt = slope-in l i (h .spans (i / 2) ((div-lt-iff-lt-mul (omega arith)) .1 (omega arith)))
-
-pub widths-more : (l : List Span) (i : ℕ) → widths l (i + 1) ≡ widths l i + (spanAt l i .left .width + spanAt l i .right .width)
+pub widths-more : (l : List ℕ) (i : ℕ) → widths l (i + 1) ≡ widths l i + slopeOf l i .width
 unfolding widths
 widths-more l i = rw (add-one i)

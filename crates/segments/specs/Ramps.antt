@@ -3,11 +3,12 @@ use Prim.Native.Nat.{ℕ, _+_, _≤_}
 use Rattle.rounding.specs.Load.{breakLoad}
 use Rattle.rounding.specs.Ramp.{reading}
 use Rattle.standard.specs.Stretch.{Stretch}
+use Rattle.standard.specs.Units.{parts, largestPosition, largestLoad}
 use Rattle.segments.specs.declared.ramps.Ramp.{Ramp}
 
 unfoldable pub rampOf : Stretch → Ramp
 rampOf s =
-    record { extent = s .extent; skip = s .skip; full = s .full; from = breakLoad 1 (s .from); to = breakLoad 1 (s .to) }
+    record { extent = s .extent; skip = s .skip; full = s .full; from = breakLoad parts (s .from); to = breakLoad parts (s .to) }
 
 -- the reading x into it
 unfoldable pub readRamp : Ramp → ℕ → ℕ
@@ -17,6 +18,6 @@ readRamp r x = reading (r .from) (r .to) (r .full) (r .skip + x)
 pub record RampIn (r : Ramp) : Type 0 where
   pub some : 1 ≤ r .extent
   pub inside : r .skip + r .extent ≤ r .full
-  pub full : r .full ≤ 400000
-  pub from : r .from ≤ 14400000
-  pub to : r .to ≤ 14400000
+  pub full : r .full ≤ largestPosition
+  pub from : r .from ≤ largestLoad
+  pub to : r .to ≤ largestLoad

@@ -42,7 +42,7 @@ pub fn abutting_ramp(
     let ls = abutting_length(national, h);
     if i == 0 {
         return Ramp {
-            extent: 4 * loads::least(b2, ls),
+            extent: 4 * rounding::least(b2, ls),
             skip: 0,
             full: 4 * ls,
             from: loads::wall_load(national, b1, b2, h, slope, guard, ls, factor, sk),

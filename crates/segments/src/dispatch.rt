@@ -17,16 +17,15 @@ use crate::pitched::pitched_ramp;
 use crate::projection::projection_count;
 use crate::projection::projection_ramp;
 use crate::ramps::Ramp;
-use figures::Roof;
+use figures::SLOPE_NUMBERS;
 use figures::Shape;
 use standard::National;
 
 // The number of segments of a persistent code.
-pub fn count(national: National, roof: Roof, code: u8) -> usize
-    requires { ⌜ NationalIn national × ShapeIn (roof .shape) (roof .spans) ⌝ }
-    ensures { λ r. ⌜ (r ≡ countIn national (roof .shape) code) × (r ≤ 32) ⌝ }
+pub fn count_in(national: National, shape: Shape, slopes: &[u32; SLOPE_NUMBERS], code: u8) -> usize
+    requires { ⌜ NationalIn national × ShapeIn shape (now slopes) ⌝ }
+    ensures { λ r. ⌜ (r ≡ countIn national shape code) × (r ≤ 32) ⌝ }
 {
-    let shape = roof.shape;
     match shape {
         Shape::Monopitch { .. } => 1,
         Shape::Pitched { .. } => 2,
@@ -48,12 +47,18 @@ pub fn count(national: National, roof: Roof, code: u8) -> usize
 }
 
 // The stretch at an index of a persistent code, with its break loads.
-pub fn ramp_at(national: National, roof: Roof, code: u8, factor: u64, sk: u64, i: usize) -> Ramp
-    requires { ⌜ NationalIn national × ShapeIn (roof .shape) (roof .spans) × Ground factor sk × (i < countIn national (roof .shape) code) ⌝ }
-    ensures { λ r. ⌜ (r ≡ rampOf (stretchIn national (roof .shape) (roof .spans) factor sk code i)) × RampIn r ⌝ }
+pub fn ramp_in(
+    national: National,
+    shape: Shape,
+    slopes: &[u32; SLOPE_NUMBERS],
+    code: u8,
+    factor: u64,
+    sk: u64,
+    i: usize,
+) -> Ramp
+    requires { ⌜ NationalIn national × ShapeIn shape (now slopes) × Ground factor sk × (i < countIn national shape code) ⌝ }
+    ensures { λ r. ⌜ (r ≡ rampOf (stretchIn national shape (now (slopes .entry)) factor sk code i)) × RampIn r ⌝ }
 {
-    let shape = roof.shape;
-    let spans = roof.spans;
     match shape {
         Shape::Monopitch { slope, guard } => slope_ramp(slope, guard, false, factor, sk),
         Shape::Pitched {
@@ -63,7 +68,7 @@ pub fn ramp_at(national: National, roof: Roof, code: u8, factor: u64, sk: u64, i
             right_guard,
         } => pitched_ramp(left, right, left_guard, right_guard, code, factor, sk, i),
         Shape::MultiSpan { count } => multi_span_ramp(
-            spans,
+            slopes,
             count as usize,
             code == 1,
             factor,
@@ -109,12 +114,10 @@ pub fn ramp_at(national: National, roof: Roof, code: u8, factor: u64, sk: u64, i
 }
 
 // The roof's length in quarter millimetres.
-pub fn end(roof: Roof) -> u64
-    requires { ⌜ ShapeIn (roof .shape) (roof .spans) ⌝ }
-    ensures { λ r. ⌜ r ≡ endIn (roof .shape) (roof .spans) ⌝ }
+pub fn end(shape: Shape, slopes: &[u32; SLOPE_NUMBERS]) -> u64
+    requires { ⌜ ShapeIn shape (now slopes) ⌝ }
+    ensures { λ r. ⌜ r ≡ endIn shape (now (slopes .entry)) ⌝ }
 {
-    let shape = roof.shape;
-    let spans = roof.spans;
     match shape {
         Shape::Monopitch { slope, guard: _ } => 4 * (slope.width as u64),
         Shape::Pitched {
@@ -123,7 +126,7 @@ pub fn end(roof: Roof) -> u64
             left_guard: _,
             right_guard: _,
         } => 4 * (left.width as u64 + right.width as u64),
-        Shape::MultiSpan { count } => 4 * widths_of(spans, count as usize),
+        Shape::MultiSpan { count } => 4 * widths_of(slopes, 2 * (count as usize)),
         Shape::Cylindrical { rise: _, span } => 4 * (span as u64),
         Shape::Abutting {
             b1: _,

@@ -1,7 +1,6 @@
-// The ramp that each segment is cut from, by its index, for every kind of roof; how many segments an arrangement has, where
-// the roof ends, and the rules on figures and codes. These calls are for the crates above: what they require, accepted figures keep.
+// The ramp that each segment is cut from, by its index, for every kind of roof; how many segments an arrangement has, and where
+// the roof ends. These calls are for the crates above: what they require, accepted figures keep.
 mod abutting;
-mod codes;
 mod cylindrical;
 mod dispatch;
 mod monopitch;
@@ -9,14 +8,48 @@ mod multi_span;
 mod pitched;
 mod projection;
 mod ramps;
-mod refusals;
 
-pub use codes::base_code;
-pub use codes::factor;
-pub use codes::has_code;
-pub use dispatch::count;
+ghost use mathlib.Core.Path.{_≡_};
+ghost use Prim.Native.Nat.{_≤_, _<_};
+ghost use Rattle.figures.specs.RoofRules.{roofOf};
+ghost use Rattle.segments.specs.Ramps.{rampOf, RampIn};
+ghost use Rattle.standard.specs.Arrangements.{stretch};
+ghost use Rattle.standard.specs.Bounds.{FiguresIn};
 pub use dispatch::end;
-pub use dispatch::ramp_at;
+use figures::SLOPE_NUMBERS;
+use figures::Shape;
+use figures::Site;
 pub use ramps::Ramp;
 pub use ramps::reading_in;
-pub use refusals::refusal;
+use standard::National;
+
+// The number of segments of an arrangement.
+pub fn count(
+    national: National,
+    site: Site,
+    shape: Shape,
+    slopes: &[u32; SLOPE_NUMBERS],
+    code: u8,
+) -> usize
+    requires { ⌜ FiguresIn national site (roofOf shape (now slopes)) ⌝ }
+    ensures { λ r. ⌜ (r ≡ Rattle.standard.specs.Arrangements.count national (roofOf shape (now (slopes .entry))) code) × (r ≤ 32) ⌝ }
+{
+    dispatch::count_in(national, shape, slopes, codes::base_code(code))
+}
+
+// The ramp of the segment at an index of an arrangement, with its break loads.
+pub fn ramp_at(
+    national: National,
+    site: Site,
+    shape: Shape,
+    slopes: &[u32; SLOPE_NUMBERS],
+    code: u8,
+    i: usize,
+) -> Ramp
+    requires { ⌜ FiguresIn national site (roofOf shape (now slopes)) × (i < Rattle.standard.specs.Arrangements.count national (roofOf shape (now slopes)) code) ⌝ }
+    ensures { λ r. ⌜ (r ≡ rampOf (stretch national site (roofOf shape (now (slopes .entry))) code i)) × RampIn r ⌝ }
+{
+    let base = codes::base_code(code);
+    let factor = codes::factor(site, code);
+    dispatch::ramp_in(national, shape, slopes, base, factor, site.sk as u64, i)
+}

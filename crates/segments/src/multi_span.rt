@@ -4,21 +4,15 @@ ghost use mathlib.Core.Path.{_≡_};
 ghost use lib.Dec.{eqb};
 ghost use Prim.Native.Nat.{_*_, _+_, _-_, _%_, _≤_, _<_};
 ghost use Rattle.figures.specs.Bounds.{SlopeIn};
+ghost use Rattle.figures.specs.RoofRules.{slopeOf};
 ghost use Rattle.loads.specs.Sizes.{Ground};
 ghost use Rattle.segments.specs.Ramps.{rampOf, RampIn};
-ghost use Rattle.standard.specs.MultiSpan.{slopeOf, multiSpan, widths};
+ghost use Rattle.standard.specs.MultiSpan.{multiSpan, widths};
 use crate::ramps::Ramp;
 use crate::ramps::even;
 use crate::ramps::whole;
-use figures::Slope;
-use figures::Span;
-
-// Slope i from the left, of the span that it is in.
-fn slope_in(span: Span, i: usize) -> Slope
-    ensures { λ r. ⌜ r ≡ cond (eqb (i % 2) 0) (span .left) (span .right) ⌝ }
-{
-    if i % 2 == 0 { span.left } else { span.right }
-}
+use figures::SLOPE_NUMBERS;
+use figures::slope_at;
 
 // The slope across slope i's valley: the one before a left slope, the one after a right slope.
 fn across(i: usize) -> usize
@@ -31,26 +25,23 @@ fn across(i: usize) -> usize
 // The stretch at an index: one slope. But for the first and the last, a left slope has its valley at its left end, a right
 // slope at its right end.
 pub fn multi_span_ramp(
-    spans: [Span; 16],
+    slopes: &[u32; SLOPE_NUMBERS],
     count: usize,
     undrifted: bool,
     factor: u64,
     sk: u64,
     i: usize,
 ) -> Ramp
-    requires { ⌜ Ground factor sk × (count ≤ 16) × (i < 2 * count) × SlopeIn (slopeOf spans i) ⌝ }
-    ensures { λ r. ⌜ (r ≡ rampOf (multiSpan factor sk spans count undrifted i)) × RampIn r ⌝ }
+    requires { ⌜ Ground factor sk × (count ≤ 16) × (i < 2 * count) × SlopeIn (slopeOf (now slopes) i) ⌝ }
+    ensures { λ r. ⌜ (r ≡ rampOf (multiSpan factor sk (now (slopes .entry)) count undrifted i)) × RampIn r ⌝ }
 {
-    let span = spans[i / 2];
-    let slope = slope_in(span, i);
+    let slope = slope_at(slopes, i);
     let extent = 4 * (slope.width as u64);
     let own = loads::slope_load(slope, 0, false, factor, sk);
     if undrifted | (i == 0) | (i + 1 == 2 * count) {
         return even(extent, own);
     }
-    let j = across(i);
-    let beyond = spans[j / 2];
-    let other = slope_in(beyond, j);
+    let other = slope_at(slopes, across(i));
     let valley = loads::valley_load(slope.pitch, other.pitch, factor, sk);
     if i % 2 == 0 {
         return whole(extent, valley, own);
@@ -58,18 +49,16 @@ pub fn multi_span_ramp(
     whole(extent, own, valley)
 }
 
-// The widths of the first count spans together.
-pub fn widths_of(spans: [Span; 16], count: usize) -> u64
-    requires { ⌜ count ≤ 16 ⌝ }
-    ensures { λ r. ⌜ (r ≡ widths spans count) × (r ≤ 200000000000) ⌝ }
+// The widths of the first n slopes together.
+pub fn widths_of(slopes: &[u32; SLOPE_NUMBERS], n: usize) -> u64
+    requires { ⌜ n ≤ 32 ⌝ }
+    ensures { λ r. ⌜ (r ≡ widths (now (slopes .entry)) n) × (r ≤ 4294967295 * 32) ⌝ }
 {
     let mut sum: u64 = 0;
     let mut i = 0;
-    while i < count {
-        let span = spans[i];
-        let left = span.left;
-        let right = span.right;
-        sum += left.width as u64 + right.width as u64;
+    while i < n {
+        let slope = slope_at(slopes, i);
+        sum += slope.width as u64;
         i += 1;
     }
     sum

@@ -6,7 +6,7 @@ ghost use Prim.Native.Nat.{_≤_, _<_};
 ghost use Rattle.figures.specs.Bounds.{Within, ProjectionIn};
 ghost use Rattle.loads.specs.Sizes.{Ground};
 ghost use Rattle.segments.specs.Ramps.{rampOf, RampIn};
-ghost use Rattle.standard.specs.Projection.{projectionLength, obstacleLoad, besides, projection, projectionCount};
+ghost use Rattle.standard.specs.Projection.{projectionLength, projectionLoad, projectionRow, projection, projectionCount};
 ghost use Rattle.standard.specs.Stretch.{eightTenths};
 use crate::cylindrical::row_index;
 use crate::ramps::Ramp;
@@ -21,25 +21,25 @@ fn projection_length(h: u64) -> u64
 }
 
 // The stretch at an index of the full row: even, the ramp up, the ramp down, even. A ramp is cut where the roof ends inside it.
-fn beside(h: u64, left: u64, right: u64, ls: u64, factor: u64, sk: u64, j: usize) -> Ramp
+fn row_ramp(h: u64, left: u64, right: u64, ls: u64, factor: u64, sk: u64, j: usize) -> Ramp
     requires { ⌜ ProjectionIn h left right × (ls ≡ projectionLength h) × Within 1000 30000 ls × (j ≡ 0 → ls < left) × (2 < j → ls < right) × Ground factor sk ⌝ }
-    ensures { λ r. ⌜ (r ≡ rampOf (besides ls (obstacleLoad factor sk h) (eightTenths factor sk) left right j)) × RampIn r ⌝ }
+    ensures { λ r. ⌜ (r ≡ rampOf (projectionRow ls (projectionLoad factor sk h) (eightTenths factor sk) left right j)) × RampIn r ⌝ }
 {
     let rest = loads::eight_tenths_load(factor, sk);
     match j {
         0 => even(4 * (left - ls), rest),
         1 => Ramp {
-            extent: 4 * loads::least(left, ls),
-            skip: 4 * loads::less(ls, left),
+            extent: 4 * rounding::least(left, ls),
+            skip: 4 * rounding::less(ls, left),
             full: 4 * ls,
             from: rest,
-            to: loads::obstacle_load(h, factor, sk),
+            to: loads::projection_load(h, factor, sk),
         },
         2 => Ramp {
-            extent: 4 * loads::least(right, ls),
+            extent: 4 * rounding::least(right, ls),
             skip: 0,
             full: 4 * ls,
-            from: loads::obstacle_load(h, factor, sk),
+            from: loads::projection_load(h, factor, sk),
             to: rest,
         },
         _ => even(4 * (right - ls), rest),
@@ -52,7 +52,7 @@ pub fn projection_ramp(h: u64, left: u64, right: u64, factor: u64, sk: u64, i: u
     ensures { λ r. ⌜ (r ≡ rampOf (projection factor sk h left right i)) × RampIn r ⌝ }
 {
     let ls = projection_length(h);
-    beside(h, left, right, ls, factor, sk, row_index(ls, left, i))
+    row_ramp(h, left, right, ls, factor, sk, row_index(ls, left, i))
 }
 
 // 1 where a width goes on past the drift, and 0 where it is all ramp.

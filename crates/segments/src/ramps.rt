@@ -2,6 +2,7 @@
 ghost use mathlib.Core.Path.{_≡_};
 ghost use Prim.Native.Nat.{_≤_};
 ghost use Rattle.segments.specs.Ramps.{RampIn, readRamp};
+ghost use Rattle.standard.specs.Units.{largestLoad};
 
 // A part of an uncut ramp: its length on the roof, how far into the ramp it begins, the ramp's whole length, and the ramp's
 // break loads. Lengths in quarter millimetres, loads in N/m².
@@ -42,7 +43,7 @@ pub fn whole(extent: u64, from: u64, to: u64) -> Ramp
 // The reading x into a ramp's part: the line between its break loads, rounded up.
 pub fn reading_in(ramp: Ramp, x: u64) -> u64
     requires { ⌜ RampIn ramp × (x ≤ ramp .extent) ⌝ }
-    ensures { λ r. ⌜ (r ≡ readRamp ramp x) × (r ≤ 14400000) ⌝ }
+    ensures { λ r. ⌜ (r ≡ readRamp ramp x) × (r ≤ largestLoad) ⌝ }
 {
     let along = ramp.skip + x;
     // At an end of the uncut ramp its break load is read.

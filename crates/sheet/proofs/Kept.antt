@@ -1,17 +1,19 @@
 -- What accepted pairs and an accepted sheet keep: the items lie within the sheet, and none is empty.
-use Prim.Native.Nat.{ℕ, zero, suc, _+_, _-_, _*_, _≤_, _<_}
-use mathlib.Core.Path.{_≡_, refl, subst, sym, ap, _∙_}
+use Prim.Native.Nat.{ℕ, zero, suc, _+_, _≤_, _<_}
+use mathlib.Core.Path.{_≡_, refl, subst, sym, _∙_}
 use mathlib.Core.Bool.{Bool, true, false, cond, _&&_}
 use mathlib.Core.List.{List, []}
 use mathlib.Core.Logic.{⊎-elim}
 use borrow.Author.Tests.{leb-true, ltb-true, eqb-true, lt-ltb, le-ltb}
 use lib.Dec.{leb, ltb, eqb}
-use lib.ListN.{length, take, drop}
-use native.Mathlib.Nat.{eq-or-lt-of-le, eq-zero-or-pos, add-sub-cancel-left}
+use lib.ListN.{length}
+use native.Mathlib.Nat.{eq-or-lt-of-le, eq-zero-or-pos}
 use native.Mathlib.Omega.{arith}
 use Rattle.figures.proofs.Laws.{both}
-use Rattle.sheet.specs.Items.{ruleNumber, content}
-use Rattle.sheet.specs.Sheet.{Answer, accepted, refused, Place, count, offset, size, earliest, part, fits, pairNumber, itemNumber, inTurn, andThen, pairsVerdict, sheetVerdict, placeBy, place}
+use Rattle.items.specs.Items.{content}
+use Rattle.sheet.specs.Find.{ItemIn}
+use Rattle.sheet.specs.Sheet.{Answer, accepted, refused, Place, count, offset, size, earliest, part, fits, pairNumber, ruleOf, itemNumber, inTurn}
+use Rattle.sheet.specs.Sheet.{andThen, pairsVerdict, sheetVerdict, placeBy, place}
 use Rattle.sheet.specs.declared.pairs.Ceiling.{Ceiling}
 use Rattle.sheet.proofs.Turns.{Fitting, fitting}
 
@@ -62,14 +64,14 @@ pairs-kept ceiling s n e =
 same-value : {A : Type 0} {a b : A} → accepted a ≡ accepted b → a ≡ b
 same-value e = cc
 
-no-bytes : (i : ℕ) (p : List ℕ) → p ≡ [] → ruleNumber i (content p) ≡ 0 → ⊥
+no-bytes : (i : ℕ) (p : List ℕ) → p ≡ [] → ruleOf i (content p) ≡ 0 → ⊥
 unfolding content
-no-bytes i p z e = let f : ruleNumber i (content []) ≡ 0 = rw z at e in omega arith
+no-bytes i p z e = let f : ruleOf i (content []) ≡ 0 = rw z at e in omega arith
 
 -- what an item keeps that breaks no rule: its bytes are some
 some : (s : List ℕ) (i : ℕ) → itemNumber s i ≡ 0 → 1 ≤ size s i
 unfolding itemNumber content
-some s i e = ⊎-elim (λ z. let f : ruleNumber i (content (part s i)) ≡ 0 = e in absurd (no-bytes i (part s i) (rw z) f)) (λ h. h) (eq-zero-or-pos (size s i))
+some s i e = ⊎-elim (λ z. let f : ruleOf i (content (part s i)) ≡ 0 = e in absurd (no-bytes i (part s i) (rw z) f)) (λ h. h) (eq-zero-or-pos (size s i))
 
 -- what an accepted sheet keeps
 pub record SheetKept (ceiling : Ceiling) (s : List ℕ) (n : ℕ) : Type 0 where
@@ -92,24 +94,48 @@ pub sheet-kept : (ceiling : Ceiling) (s : List ℕ) (n : ℕ) → sheetVerdict c
 unfolding sheetVerdict
 sheet-kept ceiling s n e = kept-by ceiling s n (pairsVerdict ceiling s) refl e
 
--- an item that is located lies in the sheet, and is not empty
+-- each item of an accepted sheet lies in it and breaks no rule
+pub item-in : (ceiling : Ceiling) (s : List ℕ) (n : ℕ) → sheetVerdict ceiling s ≡ accepted n → (i : ℕ) → i < n → ItemIn s i
+item-in ceiling s n e i h =
+    let k = sheet-kept ceiling s n e in
+    record { pair = omega (arith, k .pairs .fit .pairs); within = k .pairs .each i h .within; sound = k .sound i h }
+
+-- an item that is located is one of an accepted sheet's, at its pair
+pub record Placed (ceiling : Ceiling) (s : List ℕ) (x : ℕ) (p : Place) : Type 0 where
+  pub items : ℕ
+  pub verdict : sheetVerdict ceiling s ≡ accepted items
+  pub below : x < items
+  pub there : record { start = offset s x; bytes = size s x } ≡ p
+
+placed-by :
+    (ceiling : Ceiling) (s : List ℕ) (x : ℕ) (p : Place) (v : Answer ℕ) → sheetVerdict ceiling s ≡ v → placeBy v s x ≡ accepted p
+    → Placed ceiling s x p
+unfolding placeBy
+placed-by ceiling s x p (refused k i) q e = let z : _≡_ {A = ℕ} 0 1 = cc in absurd (omega arith)
+placed-by ceiling s x p (accepted n) q e =
+    let t = not-refused (ltb x n) (accepted (record { start = offset s x; bytes = size s x })) 12 x p e in
+    record { items = n; verdict = q; below = ltb-true x n (t .0); there = same-value (t .1) }
+
+placed : (ceiling : Ceiling) (s : List ℕ) (x : ℕ) (p : Place) → place ceiling s x ≡ accepted p → Placed ceiling s x p
+unfolding place
+placed ceiling s x p e = placed-by ceiling s x p (sheetVerdict ceiling s) refl e
+
+-- it lies in the sheet, and is not empty
 pub record InSheet (s : List ℕ) (p : Place) : Type 0 where
   pub within : p .start + p .bytes ≤ length s
   pub some : 1 ≤ p .bytes
 
-located-by : (ceiling : Ceiling) (s : List ℕ) (x : ℕ) (p : Place) (v : Answer ℕ) → sheetVerdict ceiling s ≡ v → placeBy v s x ≡ accepted p → InSheet s p
-unfolding placeBy
-located-by ceiling s x p (refused k i) q e = let z : _≡_ {A = ℕ} 0 1 = cc in absurd (omega arith)
-located-by ceiling s x p (accepted n) q e =
-    let k = sheet-kept ceiling s n q in
-    let t = not-refused (ltb x n) (accepted (record { start = offset s x; bytes = size s x })) 12 x p e in
-    let h : x < n = ltb-true x n (t .0) in
-    let there : InSheet s (record { start = offset s x; bytes = size s x }) = record { within = k .pairs .each x h .within; some = k .some x h } in
-    subst (InSheet s) (same-value (t .1)) there
-
 pub located : (ceiling : Ceiling) (s : List ℕ) (x : ℕ) (p : Place) → place ceiling s x ≡ accepted p → InSheet s p
-unfolding place
-located ceiling s x p e = located-by ceiling s x p (sheetVerdict ceiling s) refl e
+located ceiling s x p e =
+    let d = placed ceiling s x p e in
+    let k = sheet-kept ceiling s (d .items) (d .verdict) in
+    subst (InSheet s) (d .there) (record { within = k .pairs .each x (d .below) .within; some = k .some x (d .below) })
+
+-- the first item and the one that is located break no rule
+pub located-in : (ceiling : Ceiling) (s : List ℕ) (x : ℕ) (p : Place) → place ceiling s x ≡ accepted p → ItemIn s 0 × ItemIn s x
+located-in ceiling s x p e =
+    let d = placed ceiling s x p e in
+    (item-in ceiling s (d .items) (d .verdict) 0 (omega arith), item-in ceiling s (d .items) (d .verdict) x (d .below))
 
 -- what a verdict makes of the answers above it
 module _ (ceiling : Ceiling) (s : List ℕ) where
@@ -134,10 +160,6 @@ module _ (ceiling : Ceiling) (s : List ℕ) where
     unfolding place placeBy
     place-found n e h = rw (e, lt-ltb x n h)
 
--- the part between two places that a pair gives
-pub part-is : (s : List ℕ) (i a b : ℕ) → a ≡ offset s i → b ≡ size s i → take (a + b - a) (drop a s) ≡ part s i
-part-is s i a b e f = ap (λ (k : ℕ). take k (drop a s)) (add-sub-cancel-left a b) ∙ rw (e, f)
-
 -- the item that a refusal names is one of those walked over
 named-by :
     (b : Bool) (v : Answer ℕ) (y i k x j : ℕ) → (v ≡ refused x j → j < suc i + k) → cond b v (refused y i) ≡ refused x j → j < i + suc k
@@ -150,7 +172,9 @@ named-in number m i zero x j e = let z : _≡_ {A = ℕ} 0 1 = cc in absurd (ome
 named-in number m i (suc k) x j e = named-by (eqb (number i) 0) (inTurn number m (suc i) k) (number i) i k x j (named-in number m (suc i) k x j) e
 
 module _ (ceiling : Ceiling) (s : List ℕ) (x j : ℕ) where
-  pair-named-by : (b : Bool) → fits ceiling (length s) (count s) ≡ b → cond b (inTurn (pairNumber s) (count s) 0 (count s)) (refused 1 0) ≡ refused x j → j ≤ ceiling .items
+  pair-named-by :
+      (b : Bool) → fits ceiling (length s) (count s) ≡ b → cond b (inTurn (pairNumber s) (count s) 0 (count s)) (refused 1 0) ≡ refused x j
+      → j ≤ ceiling .items
   pair-named-by true f e = omega (arith, named-in (pairNumber s) (count s) 0 (count s) x j e, fitting ceiling (length s) (count s) f .items)
   pair-named-by false f e = let z : 0 ≡ j = cc in omega arith
 
@@ -168,22 +192,3 @@ module _ (ceiling : Ceiling) (s : List ℕ) (x j : ℕ) where
   pub sheet-named : sheetVerdict ceiling s ≡ refused x j → j ≤ ceiling .items
   unfolding sheetVerdict
   sheet-named e = sheet-named-by (pairsVerdict ceiling s) refl e
-
--- the pair of an item that is located, and the first pair, lie within the sheet
-pub record PairsAt (s : List ℕ) (x : ℕ) : Type 0 where
-  pub pair : 2 + 4 * x + 4 ≤ length s
-  pub first : offset s 0 + size s 0 ≤ length s
-  pub within : offset s x + size s x ≤ length s
-
-pairs-at-by : (ceiling : Ceiling) (s : List ℕ) (x : ℕ) (p : Place) (v : Answer ℕ) → sheetVerdict ceiling s ≡ v → placeBy v s x ≡ accepted p → PairsAt s x
-unfolding placeBy
-pairs-at-by ceiling s x p (refused k i) q e = let z : _≡_ {A = ℕ} 0 1 = cc in absurd (omega arith)
-pairs-at-by ceiling s x p (accepted n) q e =
-    let k = sheet-kept ceiling s n q .pairs in
-    let t = not-refused (ltb x n) (accepted (record { start = offset s x; bytes = size s x })) 12 x p e in
-    let h : x < n = ltb-true x n (t .0) in
-    record { pair = omega (arith, k .fit .pairs); first = k .each 0 (omega arith) .within; within = k .each x h .within }
-
-pub pairs-at : (ceiling : Ceiling) (s : List ℕ) (x : ℕ) (p : Place) → place ceiling s x ≡ accepted p → PairsAt s x
-unfolding place
-pairs-at ceiling s x p e = pairs-at-by ceiling s x p (sheetVerdict ceiling s) refl e

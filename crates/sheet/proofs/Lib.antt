@@ -1,4 +1,4 @@
-pub mod Forms
 pub mod Kept
 pub mod Places
+pub mod Sound
 pub mod Turns

@@ -1,4 +1,4 @@
--- An item in its place: where the first is no site, or a later one no roof, its number is its own refusal or 5.
+-- An item in its place: where the first is no site, or a later one no roof, its number is its own refusal or 5, and it has no figures.
 use Prim.Native.Nat.{ℕ, suc, _-_}
 use mathlib.Core.Path.{_≡_, refl}
 use mathlib.Core.List.{List, [], _∷_}
@@ -6,30 +6,32 @@ use mathlib.Core.Logic.{inl, inr}
 use denote.Enum.Declared
 use native.Mathlib.Omega.{arith}
 use types.Run.{OneOf}
-use Rattle.figures.specs.declared.roof.Span.{Span}
-use Rattle.sheet.proofs.items.Item as the-item
-use Rattle.sheet.specs.Items.{Content, site, roof, malformed, contentBy, misplaced, ruleNumber}
-use Rattle.sheet.specs.declared.items.Item.{Item}
-use Rattle.sheet.specs.declared.items.Item.the-variants.{SiteItem, RoofItem, Malformed}
+use Rattle.items.proofs.decoding.Item as the-item
+use Rattle.items.specs.declared.decoding.Item.{Item}
+use Rattle.items.specs.declared.decoding.Item.the-variants.{SiteItem, RoofItem, Malformed}
+use Rattle.sheet.specs.Sheet.{misplaced, ruleNumber}
+use Rattle.sheet.specs.Find.{noSite, noRoof, siteBy, roofBy}
 
 -- the variant of an item, counted from 0
 abbrev pub variant : Item → ℕ
 variant x = Declared.tagOf the-item.the-type x
 
-pub first-misplaced : (x : Item) (l : List Span) → OneOf (1 ∷ 2 ∷ []) (variant x) → misplaced x ≡ ruleNumber 0 (contentBy x l)
-first-misplaced (SiteItem s) l (inl e) = absurd (omega arith)
-first-misplaced (SiteItem s) l (inr e) = absurd (omega arith)
-first-misplaced (RoofItem shape) l v = refl
-first-misplaced (Malformed number) l v = refl
+-- an item of another variant than the site's is no site, and its number in the first place is that of its misplacement
+pub first-misplaced : (x : Item) (l : List ℕ) → OneOf (1 ∷ 2 ∷ []) (variant x) → (misplaced x ≡ ruleNumber 0 x l) × (noSite ≡ siteBy x)
+first-misplaced (SiteItem site) l (inl e) = absurd (omega arith)
+first-misplaced (SiteItem site) l (inr e) = absurd (omega arith)
+first-misplaced (RoofItem shape) l v = (refl, refl)
+first-misplaced (Malformed number) l v = (refl, refl)
 
-pub later-misplaced : (x : Item) (l : List Span) → OneOf (0 ∷ 2 ∷ []) (variant x) → misplaced x ≡ ruleNumber 1 (contentBy x l)
-later-misplaced (SiteItem s) l v = refl
+-- and so for a roof in a later place
+pub later-misplaced : (x : Item) (l : List ℕ) → OneOf (0 ∷ 2 ∷ []) (variant x) → (misplaced x ≡ ruleNumber 1 x l) × (noRoof ≡ roofBy x l)
+later-misplaced (SiteItem site) l v = (refl, refl)
 later-misplaced (RoofItem shape) l (inl e) = absurd (omega arith)
 later-misplaced (RoofItem shape) l (inr e) = absurd (omega arith)
-later-misplaced (Malformed number) l v = refl
+later-misplaced (Malformed number) l v = (refl, refl)
 
 -- every index after the first is one place
-pub later : (i : ℕ) (c : Content) → (i ≡ 0 → ⊥) → ruleNumber 1 c ≡ ruleNumber i c
-later i (site s) h = let e : i ≡ suc (i - 1) = omega arith in rw e
-later i (roof r) h = let e : i ≡ suc (i - 1) = omega arith in rw e
-later i (malformed number) h = refl
+pub later : (i : ℕ) (x : Item) (l : List ℕ) → (i ≡ 0 → ⊥) → ruleNumber 1 x l ≡ ruleNumber i x l
+later i (SiteItem site) l h = let e : i ≡ suc (i - 1) = omega arith in rw e
+later i (RoofItem shape) l h = let e : i ≡ suc (i - 1) = omega arith in rw e
+later i (Malformed number) l h = refl

@@ -1,3 +1,2 @@
-pub mod Items
-pub mod Numbers
+pub mod Find
 pub mod Sheet

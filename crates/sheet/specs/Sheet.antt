@@ -5,8 +5,13 @@ use mathlib.Core.List.{List, []}
 use lib.Dec.{leb, ltb, eqb}
 use lib.ListN.{length, take, drop}
 use Rattle.figures.specs.Ranges.{within}
-use Rattle.sheet.specs.Items.{content, ruleNumber}
-use Rattle.sheet.specs.Numbers.{le16}
+use Rattle.figures.specs.RoofRules.{shapeRefusal}
+use Rattle.figures.specs.SiteRules.{siteRefusal}
+use Rattle.items.specs.Items.{content}
+use Rattle.items.specs.Numbers.{le16}
+use Rattle.items.specs.declared.decoding.Item.{Item}
+use Rattle.items.specs.declared.decoding.Item.the-variants.{SiteItem, RoofItem, Malformed}
+use Rattle.items.specs.declared.decoding.Decoded.{Decoded}
 use Rattle.sheet.specs.declared.pairs.Ceiling.{Ceiling}
 use Rattle.sheet.specs.declared.pairs.Verdict.{Verdict}
 use Rattle.sheet.specs.declared.pairs.Verdict.the-variants.{Accepted, Refused}
@@ -50,9 +55,27 @@ fits ceiling bytes n = within 2 (ceiling .bytes) bytes && within 1 (ceiling .ite
 unfoldable pub pairNumber : List ℕ → ℕ → ℕ
 pairNumber s i = cond (leb (earliest s i) (offset s i) && leb (offset s i + size s i) (length s)) 0 2
 
--- the first rule that item i breaks: empty (4), 3, 4, 5, and the value rules
+-- the first rule that an item at an index breaks, 0 where it breaks none: the refusal of its form, then
+-- "5 first item no site, or a later site", then the value rules 6 to 10
+abbrev pub ruleNumber : ℕ → Item → List ℕ → ℕ
+ruleNumber index (Malformed number) slopes = number
+ruleNumber zero (SiteItem site) slopes = siteRefusal site
+ruleNumber (suc index) (SiteItem site) slopes = 5
+ruleNumber zero (RoofItem shape) slopes = 5
+ruleNumber (suc index) (RoofItem shape) slopes = shapeRefusal shape slopes
+
+abbrev pub ruleOf : ℕ → Decoded → ℕ
+ruleOf index d = ruleNumber index (d .item) (d .slopes)
+
+-- the number of an item that may not stand where it does: the refusal of its form, or 5
+abbrev pub misplaced : Item → ℕ
+misplaced (Malformed number) = number
+misplaced (SiteItem site) = 5
+misplaced (RoofItem shape) = 5
+
+-- "then item by item empty (4), 3, 4, 5, and the value rules": the first rule that item i breaks
 unfoldable pub itemNumber : List ℕ → ℕ → ℕ
-itemNumber s i = ruleNumber i (content (part s i))
+itemNumber s i = ruleOf i (content (part s i))
 
 -- k items in turn from i on, of which the first whose number is not 0 is named; n where there is none
 unfoldable pub inTurn : (ℕ → ℕ) → ℕ → ℕ → ℕ → Answer ℕ
@@ -68,7 +91,7 @@ andThen (refused number item) next = refused number item
 unfoldable pub pairsVerdict : Ceiling → List ℕ → Answer ℕ
 pairsVerdict ceiling s = cond (fits ceiling (length s) (count s)) (inTurn (pairNumber s) (count s) 0 (count s)) (refused 1 0)
 
--- "then item by item": the verdict on a sheet, accepted with its count
+-- the verdict on a sheet: its pairs, then its items in turn; accepted with its count
 unfoldable pub sheetVerdict : Ceiling → List ℕ → Answer ℕ
 sheetVerdict ceiling s = andThen (pairsVerdict ceiling s) (inTurn (itemNumber s) (count s) 0 (count s))
 

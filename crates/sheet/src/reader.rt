@@ -2,19 +2,17 @@
 ghost use mathlib.Core.Path.{_≡_};
 ghost use Prim.Native.Nat.{_+_, _*_, _≤_};
 ghost use lib.ListN.{length};
-ghost use Rattle.sheet.specs.Items.{content, misplaced, ruleNumber};
-ghost use Rattle.sheet.specs.Sheet.{terminals, offset, size, part, itemNumber, inTurn, pairsVerdict, accepted, sheetVerdict, place, partAt, verdictMeans, locatedMeans};
-use crate::items::Item;
-use crate::items::decode;
-use crate::numbers::index_at;
+ghost use Rattle.items.specs.Items.{content};
+ghost use Rattle.sheet.specs.Sheet.{terminals, offset, size, part, misplaced, ruleOf, itemNumber, inTurn, pairsVerdict};
+ghost use Rattle.sheet.specs.Sheet.{accepted, sheetVerdict, place, partAt, verdictMeans, locatedMeans};
 use crate::pairs::Ceiling;
 use crate::pairs::Verdict;
 use crate::pairs::read_pairs;
-use figures::Roof;
-use figures::roof_number;
-use figures::roof_verdict;
-use figures::site_number;
-use figures::site_verdict;
+use figures::shape_refusal;
+use figures::site_refusal;
+use items::Item;
+use items::decode;
+use items::index_at;
 
 // Refusals that the reader adds, by document 01's numbers.
 const SITE_PLACE: u8 = 5;
@@ -40,30 +38,47 @@ fn misplaced_number(item: Item) -> u8
 
 // The first rule that the first item breaks.
 fn first_number(p: &[u8]) -> u8
-    ensures { λ r. ⌜ r ≡ ruleNumber 0 (content (now (p .entry))) ⌝ }
+    ensures { λ r. ⌜ r ≡ ruleOf 0 (content (now (p .entry))) ⌝ }
 {
     let decoded = decode(p);
     let item = decoded.item;
     let Item::SiteItem(site) = item else {
         return misplaced_number(item);
     };
-    site_number(site_verdict(site))
+    site_refusal(site)
 }
 
 // The first rule that a later item breaks.
 fn later_number(p: &[u8]) -> u8
-    ensures { λ r. ⌜ r ≡ ruleNumber 1 (content (now (p .entry))) ⌝ }
+    ensures { λ r. ⌜ r ≡ ruleOf 1 (content (now (p .entry))) ⌝ }
 {
     let decoded = decode(p);
     let item = decoded.item;
-    let spans = decoded.spans;
+    let slopes = decoded.slopes;
     let Item::RoofItem(shape) = item else {
         return misplaced_number(item);
     };
-    roof_number(roof_verdict(Roof {
-        shape: shape,
-        spans: spans,
-    }))
+    shape_refusal(shape, &slopes)
+}
+
+// The first rule that the item at an index breaks, 0 where it breaks none.
+fn item_number(index: usize, p: &[u8]) -> u8
+    ensures { λ r. ⌜ r ≡ ruleOf index (content (now (p .entry))) ⌝ }
+{
+    if index == 0 {
+        return first_number(p);
+    }
+    later_number(p)
+}
+
+// The item that a pair lies at, where both are within the sheet.
+pub fn part_at<'a>(s: &'a [u8], index: usize) -> &'a [u8]
+    requires { ⌜ (2 + 4 * index + 4 ≤ length (now s)) × (offset (now s) index + size (now s) index ≤ length (now s)) ⌝ }
+    ensures { λ r. ⌜ now r ≡ part (now (s .entry)) index ⌝ }
+{
+    let start = index_at(s, 2 + 4 * index);
+    let bytes = index_at(s, 2 + 4 * index + 2);
+    &s[start..start + bytes]
 }
 
 // The n items in turn, where the pairs are accepted.
@@ -73,25 +88,13 @@ fn check_items(s: &[u8], ceiling: Ceiling, n: usize) -> Verdict
 {
     let mut i = 0;
     while i < n {
-        let offset = index_at(s, 2 + 4 * i);
-        let size = index_at(s, 2 + 4 * i + 2);
-        let number = item_number(i, &s[offset..offset + size]);
+        let number = item_number(i, part_at(s, i));
         if number != 0 {
             return Verdict::Refused(number, i);
         }
         i += 1;
     }
     Verdict::Accepted(n)
-}
-
-// The first rule that the item at an index breaks, 0 where it breaks none.
-fn item_number(index: usize, p: &[u8]) -> u8
-    ensures { λ r. ⌜ r ≡ ruleNumber index (content (now (p .entry))) ⌝ }
-{
-    if index == 0 {
-        return first_number(p);
-    }
-    later_number(p)
 }
 
 // The verdict on a sheet, under a ceiling.
@@ -143,16 +146,6 @@ pub fn locate(s: &[u8], index: usize) -> Located
     ensures { λ r. ⌜ locatedMeans r ≡ place terminals (now (s .entry)) index ⌝ }
 {
     locate_under(s, terminal_ceiling(), index)
-}
-
-// The item that a pair lies at, where that is within the sheet. For the crates above, which have the verdict.
-pub fn part_at<'a>(s: &'a [u8], index: usize) -> &'a [u8]
-    requires { ⌜ (2 + 4 * index + 4 ≤ length (now s)) × (offset (now s) index + size (now s) index ≤ length (now s)) ⌝ }
-    ensures { λ r. ⌜ now r ≡ part (now (s .entry)) index ⌝ }
-{
-    let start = index_at(s, 2 + 4 * index);
-    let bytes = index_at(s, 2 + 4 * index + 2);
-    &s[start..start + bytes]
 }
 
 // The item at an index, as that part of the sheet; the empty part where `locate` refuses.

@@ -39,8 +39,9 @@ fn main() {
             return;
         }
     }
+    let mut numbers = [0u32; 128];
     let mut text = text_room();
-    let written = listing::list(&sheet[..n], &mut text);
+    let written = listing::list(&sheet[..n], &mut numbers, &mut text);
     if !io::write_all(libc::STDOUT_FILENO, &text[..written]) {
         os::fail(b"write");
     }

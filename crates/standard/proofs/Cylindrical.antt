@@ -1,6 +1,6 @@
 -- Kind 5: the loaded width is what the rule says; the stretches are that width and the bare ends, and rise with sk.
 use Prim.Native.Nat.{ℕ, zero, suc, _+_, _-_, _*_, _≤_, _<_}
-use mathlib.Core.Path.{_≡_, refl, subst}
+use mathlib.Core.Path.{_≡_, refl, subst, _∙_}
 use mathlib.Core.Bool.{Bool, true, false, cond, not, _&&_}
 use mathlib.Core.Logic.{⊎-elim}
 use borrow.Author.Tests.{leb-true, le-leb, lt-leb, ltb-true, ltb-false}
@@ -10,15 +10,18 @@ use native.Mathlib.Nat.{mul-le-mul, mul-le-mul-left, mul-pos, le-trans, add-sub-
 use native.Mathlib.Omega.{arith}
 use Rattle.figures.specs.Ranges.{within}
 use Rattle.figures.specs.Bounds.{CylindricalIn}
-use Rattle.rounding.specs.Up.{ceilDiv, roundedUp}
+use Rattle.rounding.specs.Fraction.{over}
+use Rattle.rounding.specs.Up.{roundedUp}
 use Rattle.rounding.specs.Load.{Load, Positive, breakLoad}
-use Rattle.rounding.proofs.Rounding.{below-least}
+use Rattle.rounding.proofs.Ramps.{break-alone}
+use Rattle.rounding.proofs.Rounding.{below-least, up-nothing}
 use Rattle.standard.specs.Coefficients.{mu3}
-use Rattle.standard.specs.Stretch.{load, startOf, eightTenths, noLoad}
+use Rattle.standard.specs.Stretch.{even, load, startOf, eightTenths, noLoad}
 use Rattle.standard.specs.Cylindrical.{firstFrom, wideEnough, loadedWidth, archEven, archDrift, peakLoad, halfLoad, cylindrical, cylindricalCount}
 use Rattle.standard.specs.declared.National.{National}
-use Rattle.standard.proofs.Handy.{mu3-positive}
-use Rattle.standard.proofs.Runs.{Fine, Level, Upward, Rises, WellFormed, ramp-fine, even-fine, even-level, ramp-rises, even-rises, formed, outside, ramp-beside}
+use Rattle.standard.proofs.Numerators.{mu3-positive}
+use Rattle.standard.proofs.Runs.{Readable, Level, Upward, Rises, WellFormed, formed, outside}
+use Rattle.standard.proofs.Runs.{even-readable, even-level, even-rises, ramp-readable, ramp-rises, ramp-beside}
 use Rattle.standard.proofs.Loads.{alone-positive, eight-tenths-positive, no-load-positive, steady-up, no-load-up}
 
 -- r is where a search from n on of at most k tries ends
@@ -131,8 +134,7 @@ module _ (rise span : ℕ) where
       (pos-of-ne-zero (λ z. nothing-not-wide h (rw z at (found .taken (omega arith)))))
 
 no-load-break : breakLoad 1 noLoad ≡ 0
-unfolding breakLoad roundedUp ceilDiv
-no-load-break = refl
+no-load-break = break-alone 1 (over 0 1) ∙ up-nothing 1
 
 eight-tenths-break : (factor sk : ℕ) → 0 < factor → 0 < sk → 0 < breakLoad 1 (eightTenths factor sk)
 unfolding breakLoad roundedUp load
@@ -141,42 +143,42 @@ eight-tenths-break factor sk hf hs = omega (arith, below-least (1 * (8 * factor 
 module _ (span ls : ℕ) where
   module _ (some : 0 < ls) where
     -- A row has its bare ends only where they have a length.
-    arch-even-fine : (factor sk j : ℕ) → (j ≡ 0 → ls < span) → (1 < j → ls < span) → Fine (archEven factor sk span ls j)
+    arch-even-readable : (factor sk j : ℕ) → (j ≡ 0 → ls < span) → (1 < j → ls < span) → Readable (archEven factor sk span ls j)
     unfolding archEven
-    arch-even-fine factor sk zero f g = even-fine _ _ (omega (arith, f refl)) no-load-positive
-    arch-even-fine factor sk (suc zero) f g = even-fine _ _ (omega arith) (eight-tenths-positive factor sk)
-    arch-even-fine factor sk (suc (suc j)) f g = even-fine _ _ (omega (arith, g (omega arith))) no-load-positive
+    arch-even-readable factor sk zero f g = even-readable _ _ (omega (arith, f refl)) no-load-positive
+    arch-even-readable factor sk (suc zero) f g = even-readable _ _ (omega arith) (eight-tenths-positive factor sk)
+    arch-even-readable factor sk (suc (suc j)) f g = even-readable _ _ (omega (arith, g (omega arith))) no-load-positive
 
     arch-even-formed :
         (factor sk : ℕ) (bare : Bool) → (bare ≡ true → ls < span) → (bare ≡ false → ls ≡ span)
         → WellFormed (λ i. archEven factor sk span ls (cond bare i (suc i))) (cond bare 3 1) (4 * span)
     unfolding archEven startOf
     arch-even-formed factor sk true f g =
-        formed _ _ _ (omega arith) (omega arith) (λ i h. arch-even-fine factor sk i (λ z. f refl) (λ z. f refl)) (omega (arith, f refl))
+        formed _ _ _ (omega arith) (omega arith) (λ i h. arch-even-readable factor sk i (λ z. f refl) (λ z. f refl)) (omega (arith, f refl))
     arch-even-formed factor sk false f g =
         formed _ _ _ (omega arith) (omega arith)
-        (λ i h. arch-even-fine factor sk (suc i) (λ z. absurd (omega arith)) (λ z. absurd (omega arith)))
+        (λ i h. arch-even-readable factor sk (suc i) (λ z. absurd (omega arith)) (λ z. absurd (omega arith)))
         (omega (arith, g refl))
 
     module _ (half peak : Load) (p : Positive half) (q : Positive peak) where
-      arch-drift-fine : (j : ℕ) → (j ≡ 0 → ls < span) → (4 < j → ls < span) → Fine (archDrift half peak span ls j)
+      arch-drift-readable : (j : ℕ) → (j ≡ 0 → ls < span) → (4 < j → ls < span) → Readable (archDrift half peak span ls j)
       unfolding archDrift
-      arch-drift-fine zero f g = even-fine _ _ (omega (arith, f refl)) no-load-positive
-      arch-drift-fine (suc zero) f g = ramp-fine ls noLoad half some no-load-positive p
-      arch-drift-fine (suc (suc zero)) f g = ramp-fine ls half noLoad some p no-load-positive
-      arch-drift-fine (suc (suc (suc zero))) f g = ramp-fine ls noLoad peak some no-load-positive q
-      arch-drift-fine (suc (suc (suc (suc zero)))) f g = ramp-fine ls peak noLoad some q no-load-positive
-      arch-drift-fine (suc (suc (suc (suc (suc j))))) f g = even-fine _ _ (omega (arith, g (omega arith))) no-load-positive
+      arch-drift-readable zero f g = even-readable _ _ (omega (arith, f refl)) no-load-positive
+      arch-drift-readable (suc zero) f g = ramp-readable ls noLoad half some no-load-positive p
+      arch-drift-readable (suc (suc zero)) f g = ramp-readable ls half noLoad some p no-load-positive
+      arch-drift-readable (suc (suc (suc zero))) f g = ramp-readable ls noLoad peak some no-load-positive q
+      arch-drift-readable (suc (suc (suc (suc zero)))) f g = ramp-readable ls peak noLoad some q no-load-positive
+      arch-drift-readable (suc (suc (suc (suc (suc j))))) f g = even-readable _ _ (omega (arith, g (omega arith))) no-load-positive
 
       arch-drift-formed :
           (bare : Bool) → (bare ≡ true → ls < span) → (bare ≡ false → ls ≡ span)
           → WellFormed (λ i. archDrift half peak span ls (cond bare i (suc i))) (cond bare 6 4) (4 * span)
       unfolding archDrift startOf
       arch-drift-formed true f g =
-          formed _ _ _ (omega arith) (omega arith) (λ i h. arch-drift-fine i (λ z. f refl) (λ z. f refl)) (omega (arith, f refl))
+          formed _ _ _ (omega arith) (omega arith) (λ i h. arch-drift-readable i (λ z. f refl) (λ z. f refl)) (omega (arith, f refl))
       arch-drift-formed false f g =
           formed _ _ _ (omega arith) (omega arith)
-          (λ i h. arch-drift-fine (suc i) (λ z. absurd (omega arith)) (λ z. absurd (omega arith)))
+          (λ i h. arch-drift-readable (suc i) (λ z. absurd (omega arith)) (λ z. absurd (omega arith)))
           (omega (arith, g refl))
 
   arch-even-rises : (factor s t : ℕ) → s ≤ t → (j : ℕ) → Rises (archEven factor s span ls j) (archEven factor t span ls j)
@@ -193,8 +195,8 @@ module _ (span ls : ℕ) where
 
   arch-even-apart :
       (factor sk : ℕ) → 0 < factor → 0 < sk → (bare : Bool) (i : ℕ) → suc i < cond bare 3 1
-      → breakLoad 1 (archEven factor sk span ls (cond bare i (suc i)) .from) ≡ breakLoad 1 (archEven factor sk span ls (cond bare (suc i) (suc (suc i))) .from)
-      → ⊥
+      → breakLoad 1 (archEven factor sk span ls (cond bare i (suc i)) .from)
+      ≡ breakLoad 1 (archEven factor sk span ls (cond bare (suc i) (suc (suc i))) .from) → ⊥
   unfolding archEven
   arch-even-apart factor sk hf hs true zero c e = omega (arith, no-load-break, eight-tenths-break factor sk hf hs)
   arch-even-apart factor sk hf hs true (suc zero) c e = omega (arith, no-load-break, eight-tenths-break factor sk hf hs)
@@ -252,7 +254,8 @@ module _ (national : National) (factor rise span : ℕ) where
       (ltb (loadedWidth rise span) span) (ltb-true _ _) (all-loaded rise span)
 
   pub cylindrical-rises :
-      (undrifted : Bool) (s t i : ℕ) → s ≤ t → Rises (cylindrical national factor s rise span undrifted i) (cylindrical national factor t rise span undrifted i)
+      (undrifted : Bool) (s t i : ℕ) → s ≤ t
+      → Rises (cylindrical national factor s rise span undrifted i) (cylindrical national factor t rise span undrifted i)
   unfolding cylindrical
   cylindrical-rises true s t i p = arch-even-rises span (loadedWidth rise span) factor s t p _
   cylindrical-rises false s t i p = arch-drift-rises span (loadedWidth rise span) _ _ _ _ (half-up s t p) (peak-up s t p) _
@@ -269,8 +272,8 @@ module _ (national : National) (factor rise span : ℕ) where
       (undrifted : Bool) (sk i : ℕ) → 0 < factor → 0 < sk → suc i < cylindricalCount rise span undrifted
       → (not undrifted && within 1 4 (cond (ltb (loadedWidth rise span) span) i (suc i))) ≡ false
       → (not undrifted && within 1 4 (cond (ltb (loadedWidth rise span) span) (suc i) (suc (suc i)))) ≡ false
-      → breakLoad 1 (cylindrical national factor sk rise span undrifted i .from) ≡ breakLoad 1 (cylindrical national factor sk rise span undrifted (suc i) .from)
-      → ⊥
+      → breakLoad 1 (cylindrical national factor sk rise span undrifted i .from)
+      ≡ breakLoad 1 (cylindrical national factor sk rise span undrifted (suc i) .from) → ⊥
   unfolding cylindrical cylindricalCount
   cylindrical-apart true sk i hf hs c e e' d =
       arch-even-apart span (loadedWidth rise span) factor sk hf hs (ltb (loadedWidth rise span) span) i c d
@@ -280,3 +283,61 @@ module _ (national : National) (factor rise span : ℕ) where
       at-most : (bare : Bool) → suc i < cond bare 6 4 → suc i < cond bare 1 0 + (4 + 1)
       at-most true c = omega arith
       at-most false c = omega arith
+
+-- the row of code 1 of an arch, and of code 2
+pub even-bare : (factor sk span ls j : ℕ) → (j ≡ 1 → ⊥) → archEven factor sk span ls j ≡ even (2 * (span - ls)) noLoad
+unfolding archEven
+even-bare factor sk span ls zero h = refl
+even-bare factor sk span ls (suc zero) h = absurd (h refl)
+even-bare factor sk span ls (suc (suc j)) h = refl
+
+pub drift-bare :
+    (half peak : Load) (span ls j : ℕ) → (j ≡ 1 → ⊥) → (j ≡ 2 → ⊥) → (j ≡ 3 → ⊥) → (j ≡ 4 → ⊥)
+    → archDrift half peak span ls j ≡ even (2 * (span - ls)) noLoad
+unfolding archDrift
+drift-bare half peak span ls zero a b c d = refl
+drift-bare half peak span ls (suc zero) a b c d = absurd (a refl)
+drift-bare half peak span ls (suc (suc zero)) a b c d = absurd (b refl)
+drift-bare half peak span ls (suc (suc (suc zero))) a b c d = absurd (c refl)
+drift-bare half peak span ls (suc (suc (suc (suc zero)))) a b c d = absurd (d refl)
+drift-bare half peak span ls (suc (suc (suc (suc (suc j))))) a b c d = refl
+
+-- where the index stands in the full row, a stretch at the row's ends has a length
+pub record ArchRow (undrifted : Bool) (ls span i j : ℕ) : Type 0 where
+  pub few : i < 32
+  pub first : j ≡ 0 → ls < span
+  pub even-last : undrifted ≡ true → (j ≡ 1 → ⊥) → ls < span
+  pub drift-last : undrifted ≡ false → 4 < j → ls < span
+
+arch-row-by : (undrifted b : Bool) (ls span i : ℕ) → (b ≡ true → ls < span) → i < cond undrifted (cond b 3 1) (cond b 6 4) → ArchRow undrifted ls span i (cond b i (suc i))
+arch-row-by true true ls span i f h = record { few = omega arith; first = λ e. f refl; even-last = λ e g. f refl; drift-last = λ e g. f refl }
+arch-row-by true false ls span i f h =
+    record { few = omega arith; first = λ e. absurd (omega arith); even-last = λ e g. absurd (g (omega arith)); drift-last = λ e g. absurd (omega arith) }
+arch-row-by false true ls span i f h = record { few = omega arith; first = λ e. f refl; even-last = λ e g. f refl; drift-last = λ e g. f refl }
+arch-row-by false false ls span i f h =
+    record {
+      few = omega arith;
+      first = λ e. absurd (omega arith);
+      even-last = λ e g. let z : _≡_ {A = ℕ} 0 1 = cc in absurd (omega arith);
+      drift-last = λ e g. absurd (omega arith);
+    }
+
+counted : (rise span i : ℕ) (undrifted : Bool) → i < cylindricalCount rise span undrifted
+    → i < cond undrifted (cond (ltb (loadedWidth rise span) span) 3 1) (cond (ltb (loadedWidth rise span) span) 6 4)
+unfolding cylindricalCount
+counted rise span i true h = h
+counted rise span i false h = h
+
+pub arch-row :
+    (undrifted : Bool) (rise span i ls j : ℕ) → i < cylindricalCount rise span undrifted → ls ≡ loadedWidth rise span
+    → j ≡ cond (ltb ls span) i (suc i) → ArchRow undrifted ls span i j
+arch-row undrifted rise span i ls j h e f =
+    rw f (arch-row-by undrifted (ltb ls span) ls span i (ltb-true ls span) (rw e (counted rise span i undrifted h)))
+
+pub arch-few : (undrifted : Bool) (rise span i : ℕ) → i < cylindricalCount rise span undrifted → i < 32
+arch-few undrifted rise span i h = arch-row undrifted rise span i _ _ h refl refl .few
+
+-- outside the four triangles of an arch, its ends are bare
+pub bare-ends : (j ls span : ℕ) → (j ≡ 0 → ls < span) → (4 < j → ls < span) → (j ≡ 1 → ⊥) → (j ≡ 2 → ⊥) → (j ≡ 3 → ⊥) → (j ≡ 4 → ⊥) → ls < span
+bare-ends zero ls span f g a b c d = f refl
+bare-ends (suc j) ls span f g a b c d = g (omega arith)

@@ -3,32 +3,39 @@ use Prim.Native.Nat.{ℕ, _+_, _-_, _*_, _≤_, _<_, min}
 use mathlib.Core.Path.{_≡_, refl, sym, ap, subst}
 use mathlib.Core.Bool.{Bool, true, false, cond}
 use mathlib.Core.List.{List}
-use lib.Dec.{eqb}
+use borrow.Author.Tests.{eqb-true}
+use lib.Dec.{ltb, eqb}
 use native.Mathlib.Decide.{decLe}
-use native.Mathlib.Nat.{add-sub-of-le, one-mul, mul-le-mul, mul-le-mul-left, mul-le-mul-right, mul-lt-mul-of-pos-right, mul-pos, le-of-lt, le-of-mul-le-mul-right, min-eq-left, min-eq-right}
+use native.Mathlib.Nat.{add-sub-of-le, one-mul, mul-pos, le-of-lt, min-eq-left, min-eq-right}
+use native.Mathlib.Nat.{mul-le-mul, mul-le-mul-left, mul-le-mul-right, mul-lt-mul-of-pos-right, le-of-mul-le-mul-right}
 use native.Mathlib.Omega.{arith}
 use Rattle.figures.specs.Bounds.{SiteIn, SlopeIn, ShapeIn}
-use Rattle.figures.specs.RoofRules.{roofRefusal}
+use Rattle.figures.specs.Refusals.{figuresRefusal}
+use Rattle.figures.specs.RoofRules.{kindOf, shapeRefusal, roofRefusal}
 use Rattle.figures.specs.SiteRules.{siteRefusal}
 use Rattle.figures.specs.declared.site.Site.{Site}
-use Rattle.figures.specs.declared.roof.Span.{Span}
 use Rattle.figures.specs.declared.roof.Slope.{Slope}
 use Rattle.figures.specs.declared.roof.Shape.{Shape}
 use Rattle.figures.specs.declared.roof.Shape.the-variants.{Monopitch, Pitched, MultiSpan, Cylindrical, Abutting, Projection}
 use Rattle.figures.specs.declared.roof.Roof.{Roof}
-use Rattle.figures.proofs.Accepted.{site-in, roof-in}
+use Rattle.figures.proofs.Accepted.{site-in, shape-in}
+use Rattle.figures.proofs.Laws.{none-broken}
 use Rattle.rounding.specs.Fraction.{Fraction, over, sum, AtMost, Under, Below, Same, Close}
 use Rattle.rounding.specs.Load.{alone, exact, breakLoad}
 use Rattle.rounding.specs.Up.{ceilDiv, roundedUp}
 use Rattle.rounding.proofs.Rounding.{reaches, near, least, whole, up-close, up-least}
-use Rattle.rounding.proofs.Ramps.{close-whole}
-use Rattle.rounding.proofs.Limits.{smaller-is, smaller-mono, smaller-positive}
+use Rattle.rounding.proofs.Ramps.{close-whole, break-alone}
+use Rattle.rounding.proofs.Limited.{smaller-is, smaller-mono, smaller-positive}
 use Rattle.standard.specs.Arrangements.{factorOf}
+use Rattle.standard.specs.Codes.{forcesIn}
 use Rattle.standard.specs.Coefficients.{slopeMu}
-use Rattle.standard.specs.Forces.{SlopeAt, noSlope, someSlope, slopeAt, slopeLoad, wholeLoad, overhangRule, overhangForce, guardRule, guardForce}
+use Rattle.standard.specs.Forces.{SlopeAt, noSlope, someSlope, slopeAt, slopeLoad, wholeLoad, force, none, refused}
+use Rattle.standard.specs.Forces.{OverhangNear, overhangRule, overhangForce, overhangAt, overhangAnswer, overhangDistance}
+use Rattle.standard.specs.Forces.{GuardNear, guardRule, guardForce, guardAt, guardAnswer, guardDistance}
 use Rattle.standard.specs.Sine.{sineReference, sineEntry}
 use Rattle.standard.specs.Stretch.{load}
-use Rattle.standard.proofs.Handy.{mu1Num, slopeNum, slope-mu-positive, slope-mu-is}
+use Rattle.standard.specs.Numerators.{mu1Num, slopeNum}
+use Rattle.standard.proofs.Numerators.{slope-mu-positive, slope-mu-is}
 use Rattle.standard.proofs.Loads.{load-positive}
 use Rattle.standard.proofs.Sine.{sine-nearest, sine-most}
 
@@ -37,31 +44,43 @@ pub record SideIn (s : Slope) (g : ℕ) : Type 0 where
   pub slope : SlopeIn s
   pub guard : g ≤ 1
 
-sides : SlopeAt → Type 0
-sides noSlope = Unit
-sides (someSlope slope guard) = SideIn slope guard
+-- what a slope of an accepted roof keeps, and that its kind is one with local forces
+sides : ℕ → SlopeAt → Type 0
+sides kind noSlope = Unit
+sides kind (someSlope slope guard) = SideIn slope guard × (forcesIn kind ≡ true)
 
-chosen : (a b : SlopeAt) (t : Bool) → sides a → sides b → sides (cond t a b)
-chosen a b true p q = p
-chosen a b false p q = q
+chosen : (kind : ℕ) (a b : SlopeAt) (t : Bool) → sides kind a → sides kind b → sides kind (cond t a b)
+chosen kind a b true p q = p
+chosen kind a b false p q = q
 
-shape-sides : (shape : Shape) (spans : List Span) (n : ℕ) → ShapeIn shape spans → sides (slopeAt shape n)
+shape-sides : (shape : Shape) (slopes : List ℕ) (n : ℕ) → ShapeIn shape slopes → sides (kindOf shape) (slopeAt shape n)
 unfolding slopeAt sides
-shape-sides (Monopitch slope guard) spans n f = chosen _ _ (eqb n 1) (record { slope = f .slope; guard = f .guard }) tt
-shape-sides (Pitched left right leftGuard rightGuard) spans n f =
-    chosen (someSlope left leftGuard) (cond (eqb n 2) (someSlope right rightGuard) noSlope) (eqb n 1)
-    (record { slope = f .left; guard = f .left-guard })
-    (chosen (someSlope right rightGuard) noSlope (eqb n 2) (record { slope = f .right; guard = f .right-guard }) tt)
-shape-sides (MultiSpan count) spans n f = tt
-shape-sides (Cylindrical rise span) spans n f = tt
-shape-sides (Abutting b1 b2 h slope guard) spans n f = tt
-shape-sides (Projection h left right) spans n f = tt
+shape-sides (Monopitch slope guard) slopes n f = chosen 2 _ _ (eqb n 1) (record { slope = f .slope; guard = f .guard }, refl) tt
+shape-sides (Pitched left right leftGuard rightGuard) slopes n f =
+    chosen 3 (someSlope left leftGuard) (cond (eqb n 2) (someSlope right rightGuard) noSlope) (eqb n 1)
+    (record { slope = f .left; guard = f .left-guard }, refl)
+    (chosen 3 (someSlope right rightGuard) noSlope (eqb n 2) (record { slope = f .right; guard = f .right-guard }, refl) tt)
+shape-sides (MultiSpan count) slopes n f = tt
+shape-sides (Cylindrical rise span) slopes n f = tt
+shape-sides (Abutting b1 b2 h slope guard) slopes n f = tt
+shape-sides (Projection h left right) slopes n f = tt
+
+-- a kind without local forces has no slope here
+pub no-sides :
+    (shape : Shape) (slopes : List ℕ) (n : ℕ) → shapeRefusal shape slopes ≡ 0 → forcesIn (kindOf shape) ≡ false → slopeAt shape n ≡ noSlope
+unfolding sides
+no-sides shape slopes n h e = go (slopeAt shape n) (shape-sides shape slopes n (shape-in shape slopes h))
+  where
+    go : (at : SlopeAt) → sides (kindOf shape) at → at ≡ noSlope
+    go noSlope s = refl
+    go (someSlope slope guard) s = let z : _≡_ {A = ℕ} 0 1 = cc (s .1) in absurd (omega arith)
 
 pub side-in :
     (roof : Roof) (n : ℕ) (slope : Slope) (guard : ℕ) → roofRefusal roof ≡ 0 → slopeAt (roof .shape) n ≡ someSlope slope guard
     → SideIn slope guard
 unfolding sides
-side-in roof n slope guard hr e = subst (λ (s : SlopeAt). sides s) e (shape-sides (roof .shape) (roof .spans) n (roof-in roof hr))
+side-in roof n slope guard hr e =
+    subst (λ (s : SlopeAt). sides (kindOf (roof .shape)) s) e (shape-sides (roof .shape) (roof .slopes) n (shape-in (roof .shape) (roof .slopes) hr)) .0
 
 -- S is at most 24,000: μ1 at most 0.8, Ce at most 1.2, Ct at most 1, sk at most 25,000
 mu-most : (slope : Slope) (guard : ℕ) → guard ≤ 1 → 375 * slopeMu slope guard .num ≤ 300 * slopeMu slope guard .den
@@ -79,16 +98,8 @@ load-most n d f s p q r =
     let t : f * s ≤ 1200000 * 25000 = mul-le-mul q r in
     omega (arith, mul-le-mul-right 80000000 p, mul-le-mul-left n t)
 
-nothing : roundedUp 1 (over 0 1) ≡ 0
-unfolding roundedUp ceilDiv
-nothing = refl
-
-alone-up : (f : Fraction) → breakLoad 1 (alone f) ≡ roundedUp 1 f
-unfolding breakLoad
-alone-up f = omega (arith, nothing)
-
 alone-most : (m : ℕ) (f : Fraction) → 0 < f .den → f .num ≤ m * f .den → breakLoad 1 (alone f) ≤ m
-alone-most m f h p = rw (alone-up f) (up-least 1 m f h (omega arith))
+alone-most m f h p = rw (break-alone 1 f) (up-least 1 m f h (omega arith))
 
 pub whole-most : (site : Site) (slope : Slope) (guard : ℕ) → SiteIn site → guard ≤ 1 → wholeLoad site slope guard ≤ 24000
 unfolding wholeLoad slopeLoad load
@@ -99,7 +110,7 @@ whole-most site slope guard h g =
 -- S is the exact load rounded up, so less than 1 above it.
 alone-close : (f : Fraction) → 0 < f .den → Close 1 1 (breakLoad 1 (alone f)) (exact (alone f))
 unfolding exact sum
-alone-close f h = rw (alone-up f) (record { low = omega (arith, up-close 1 f h .low); high = omega (arith, up-close 1 f h .high) })
+alone-close f h = rw (break-alone 1 f) (record { low = omega (arith, up-close 1 f h .low); high = omega (arith, up-close 1 f h .high) })
 
 module _ (site : Site) (slope : Slope) (guard : ℕ) where
   slope-load-positive : 0 < exact (slopeLoad site slope guard) .den
@@ -212,12 +223,6 @@ module _ (x : Fraction) (s : ℕ) (h : 0 < x .den) (c : Close 1 1 s x) where
       (λ p. limit-near (x .num) (x .den) s r low high m)
       (λ p. cube-near (x .num) (x .den) s r low high h k m)
 
--- r is not below f, and less than 10 above it
-pub record OverhangNear (r : ℕ) (f : Fraction) : Type 0 where
-  pub positive : 0 < f .den
-  pub low : AtMost f r
-  pub high : Under r f 10
-
 -- Over the unrounded n / d and the reference N / D, with S above n / d and e millionths for N / D.
 module _ (n d s w e N D r : ℕ) (hd : 0 < d) (hD : 0 < D) (hs : s ≤ 24000) (hw : w ≤ 100000) where
   slopes-snow : s * w * (d * D) ≤ 2400000000 * (d * D)
@@ -231,7 +236,8 @@ module _ (n d s w e N D r : ℕ) (hd : 0 < d) (hD : 0 < D) (hs : s ≤ 24000) (h
       omega (arith, slopes-snow, mul-pos hd hD)
 
   sliding-high :
-      s * d < n + d → e ≤ 1000000 → 2 * (1000000 * N) ≤ (2 * e + 1) * D → 2 * e * D ≤ 2 * (1000000 * N) + D → r * 1000000000 < s * w * e + 1000000000
+      s * d < n + d → e ≤ 1000000 → 2 * (1000000 * N) ≤ (2 * e + 1) * D → 2 * e * D ≤ 2 * (1000000 * N) + D
+      → r * 1000000000 < s * w * e + 1000000000
       → r * (d * 1000 * D) * 1000 < n * w * N * 1000 + (w + 3000) * (d * 1000 * D)
   sliding-high a m l b c =
       let one : 2000000 * N ≤ 2000001 * D = omega (arith, mul-le-mul-right D m) in
@@ -241,12 +247,6 @@ module _ (n d s w e N D r : ℕ) (hd : 0 < d) (hD : 0 < D) (hs : s ≤ 24000) (h
       let u : 2000000 * N * (d * w) ≤ 2000001 * D * (d * w) = mul-le-mul-right (d * w) one in
       let v : w * (d * D) ≤ 100000 * (d * D) = mul-le-mul-right (d * D) hw in
       omega (arith, slopes-snow)
-
--- r is less than 2 below f, and less than the width in metres plus 3 above it; the width is in mm
-pub record GuardNear (r width : ℕ) (f : Fraction) : Type 0 where
-  pub positive : 0 < f .den
-  pub low : f .num < (r + 2) * f .den
-  pub high : r * f .den * 1000 < f .num * 1000 + (width + 3000) * f .den
 
 module _ (s width pitch : ℕ) where
   pub guard-is : guardForce s width pitch ≡ ceilDiv (s * width * sineEntry pitch) 1000000000
@@ -265,12 +265,14 @@ module _ (s width pitch : ℕ) where
         let b = sine-nearest pitch in
         let n = s * width * sineEntry pitch in
         let f = sineReference pitch in
+        let low = sliding-low (x .num) (x .den) s width (sineEntry pitch) (f .num) (f .den) (guardForce s width pitch) h (b .positive) hs hw in
+        let high = sliding-high (x .num) (x .den) s width (sineEntry pitch) (f .num) (f .den) (guardForce s width pitch) h (b .positive) hs hw in
         let up : n ≤ guardForce s width pitch * 1000000000 = rw guard-is (reaches n 1000000000 (omega arith)) in
         let under : guardForce s width pitch * 1000000000 < n + 1000000000 = rw guard-is (near n 1000000000 (omega arith)) in
         record {
           positive = mul-pos (mul-pos h (omega arith)) (b .positive);
-          low = sliding-low (x .num) (x .den) s width (sineEntry pitch) (f .num) (f .den) _ h (b .positive) hs hw (omega (arith, c .low)) (b .low) up;
-          high = sliding-high (x .num) (x .den) s width (sineEntry pitch) (f .num) (f .den) _ h (b .positive) hs hw (omega (arith, c .high)) (sine-most pitch hp) (b .low) (b .high) under;
+          low = low (omega (arith, c .low)) (b .low) up;
+          high = high (omega (arith, c .high)) (sine-most pitch hp) (b .low) (b .high) under;
         }
 
 -- the theorems: the overhang's holds of any figures, the guard's of accepted ones
@@ -293,3 +295,37 @@ module _ (site : Site) (roof : Roof) (n : ℕ) (slope : Slope) (guard : ℕ)
       guard-near (wholeLoad site slope guard) (slope .width) (slope .pitch)
       (whole-most site slope guard (site-in site hs) (side .guard)) (side .slope .width .high) (side .slope .pitch)
       (exact (slopeLoad site slope guard)) (slope-load-positive site slope guard) (whole-close site slope guard)
+
+-- the same of what the calls answer
+module _ (site : Site) (roof : Roof) (n : ℕ) where
+  pub overhang-answers : overhangDistance (overhangAnswer site roof n) site (slopeAt (roof .shape) n)
+  unfolding overhangAnswer overhangAt
+  overhang-answers = go (eqb (figuresRefusal site roof) 0) (slopeAt (roof .shape) n)
+    where
+      above :
+          (b : Bool) (slope : Slope) (guard : ℕ)
+          → overhangDistance (cond b (force (overhangForce (wholeLoad site slope guard))) none) site (someSlope slope guard)
+      above true slope guard = overhang-distance site slope guard
+      above false slope guard = tt
+
+      go : (b : Bool) (at : SlopeAt) → overhangDistance (cond b (overhangAt site at) (refused (figuresRefusal site roof))) site at
+      go true noSlope = tt
+      go true (someSlope slope guard) = above (ltb 800 (site .altitude)) slope guard
+      go false at = tt
+
+  pub guard-answers : guardDistance (guardAnswer site roof n) site (slopeAt (roof .shape) n)
+  unfolding guardAnswer guardAt
+  guard-answers = go (eqb (figuresRefusal site roof) 0) (slopeAt (roof .shape) n) refl refl
+    where
+      guarded :
+          (b : Bool) (slope : Slope) (guard : ℕ) → figuresRefusal site roof ≡ 0 → slopeAt (roof .shape) n ≡ someSlope slope guard
+          → guardDistance (cond b (force (guardForce (wholeLoad site slope guard) (slope .width) (slope .pitch))) none) site (someSlope slope guard)
+      guarded true slope guard h e = let p = none-broken _ _ h in guard-distance site roof n slope guard (p .0) (p .1) e
+      guarded false slope guard h e = tt
+
+      go :
+          (b : Bool) (at : SlopeAt) → eqb (figuresRefusal site roof) 0 ≡ b → slopeAt (roof .shape) n ≡ at
+          → guardDistance (cond b (guardAt site at) (refused (figuresRefusal site roof))) site at
+      go true noSlope h e = tt
+      go true (someSlope slope guard) h e = guarded (eqb guard 1) slope guard (eqb-true _ 0 h) e
+      go false at h e = tt

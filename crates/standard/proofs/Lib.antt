@@ -1,11 +1,13 @@
 pub mod Abutting
+pub mod Answered
+pub mod Codes
 pub mod Cylindrical
 pub mod Demand
 pub mod Forces
-pub mod Handy
 pub mod Loads
 pub mod Monopitch
 pub mod MultiSpan
+pub mod Numerators
 pub mod Pitched
 pub mod Projection
 pub mod Runs

@@ -5,9 +5,9 @@ use native.Mathlib.Omega.{arith}
 use Rattle.rounding.specs.Fraction.{Fraction, over, Same, Below}
 use Rattle.rounding.specs.Load.{Positive, alone}
 use Rattle.rounding.proofs.Rounding.{same-below, same-sym}
-use Rattle.rounding.proofs.Limits.{below-refl, below-trans}
+use Rattle.rounding.proofs.Limited.{below-refl, below-trans}
 use Rattle.standard.specs.Stretch.{load, loadAlone, eightTenths, noLoad}
-use Rattle.standard.proofs.Handy.{load-without}
+use Rattle.standard.proofs.Numerators.{load-without}
 use Rattle.standard.proofs.Runs.{Upward}
 
 pub load-positive : (mu : Fraction) (factor sk : ℕ) → 0 < mu .den → 0 < load mu factor sk .den

@@ -6,8 +6,8 @@ use Rattle.figures.specs.Bounds.{MonopitchIn}
 use Rattle.standard.specs.Coefficients.{slopeMu}
 use Rattle.standard.specs.Stretch.{startOf}
 use Rattle.standard.specs.Monopitch.{monopitch}
-use Rattle.standard.proofs.Handy.{slope-mu-positive}
-use Rattle.standard.proofs.Runs.{Level, Rises, WellFormed, even-fine, even-level, even-rises, formed}
+use Rattle.standard.proofs.Numerators.{slope-mu-positive}
+use Rattle.standard.proofs.Runs.{Level, Rises, WellFormed, even-readable, even-level, even-rises, formed}
 use Rattle.standard.proofs.Loads.{alone-positive, steady-up}
 
 module _ (factor : ℕ) (slope : Slope) (guard : ℕ) where
@@ -15,7 +15,7 @@ module _ (factor : ℕ) (slope : Slope) (guard : ℕ) where
   unfolding monopitch startOf
   monopitch-formed sk f =
       formed _ _ _ (omega arith) (omega arith)
-      (λ i h. even-fine _ _ (omega (arith, f .slope .width .low)) (alone-positive (slopeMu slope guard) factor sk (slope-mu-positive slope guard)))
+      (λ i h. even-readable _ _ (omega (arith, f .slope .width .low)) (alone-positive (slopeMu slope guard) factor sk (slope-mu-positive slope guard)))
       (omega arith)
 
   pub monopitch-rises : (s t i : ℕ) → s ≤ t → Rises (monopitch factor s slope guard i) (monopitch factor t slope guard i)

@@ -10,11 +10,11 @@ use Rattle.rounding.specs.Load.{Positive}
 use Rattle.standard.specs.Coefficients.{slopeMu}
 use Rattle.standard.specs.Stretch.{loadAlone, startOf}
 use Rattle.standard.specs.Pitched.{halved, pitched}
-use Rattle.standard.proofs.Handy.{slope-mu-positive}
-use Rattle.standard.proofs.Runs.{Fine, Level, Rises, WellFormed, even-fine, even-level, even-rises, formed}
+use Rattle.standard.proofs.Numerators.{slope-mu-positive}
+use Rattle.standard.proofs.Runs.{Readable, Level, Rises, WellFormed, even-readable, even-level, even-rises, formed}
 use Rattle.standard.proofs.Loads.{alone-positive, steady-up}
 
-halved-positive : (half : Bool) (mu : Fraction) → 0 < mu .den → 0 < halved half mu .den
+pub halved-positive : (half : Bool) (mu : Fraction) → 0 < mu .den → 0 < halved half mu .den
 halved-positive true mu h = omega arith
 halved-positive false mu h = h
 
@@ -23,16 +23,16 @@ slope-load-positive half slope guard factor sk =
     alone-positive (halved half (slopeMu slope guard)) factor sk (halved-positive half (slopeMu slope guard) (slope-mu-positive slope guard))
 
 module _ (factor : ℕ) (left right : Slope) (leftGuard rightGuard code : ℕ) where
-  pitched-fine : (sk i : ℕ) → PitchedIn left right leftGuard rightGuard → Fine (pitched factor sk left right leftGuard rightGuard code i)
+  pitched-readable : (sk i : ℕ) → PitchedIn left right leftGuard rightGuard → Readable (pitched factor sk left right leftGuard rightGuard code i)
   unfolding pitched
-  pitched-fine sk zero f = even-fine _ _ (omega (arith, f .left .width .low)) (slope-load-positive (eqb code 2) left leftGuard factor sk)
-  pitched-fine sk (suc i) f = even-fine _ _ (omega (arith, f .right .width .low)) (slope-load-positive (eqb code 3) right rightGuard factor sk)
+  pitched-readable sk zero f = even-readable _ _ (omega (arith, f .left .width .low)) (slope-load-positive (eqb code 2) left leftGuard factor sk)
+  pitched-readable sk (suc i) f = even-readable _ _ (omega (arith, f .right .width .low)) (slope-load-positive (eqb code 3) right rightGuard factor sk)
 
   pub pitched-formed :
       (sk : ℕ) → PitchedIn left right leftGuard rightGuard
       → WellFormed (pitched factor sk left right leftGuard rightGuard code) 2 (4 * (left .width + right .width))
   unfolding pitched startOf
-  pitched-formed sk f = formed _ _ _ (omega arith) (omega arith) (λ i h. pitched-fine sk i f) (omega arith)
+  pitched-formed sk f = formed _ _ _ (omega arith) (omega arith) (λ i h. pitched-readable sk i f) (omega arith)
 
   pub pitched-rises :
       (s t i : ℕ) → s ≤ t

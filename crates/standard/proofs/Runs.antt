@@ -10,37 +10,45 @@ use native.Mathlib.Nat.{mul-le-mul-right, mul-lt-mul-of-pos-right, lt-of-mul-lt-
 use native.Mathlib.Omega.{arith}
 use Rattle.figures.specs.Ranges.{within}
 use Rattle.figures.proofs.Laws.{within-in}
-use Rattle.rounding.specs.Fraction.{Fraction, over, AtMost, Under, Below}
+use Rattle.rounding.specs.Fraction.{Fraction, over, AtMost, Under, Below, Same}
 use Rattle.rounding.specs.Limit.{larger}
-use Rattle.rounding.specs.Load.{Load, Positive, breakLoad}
+use Rattle.rounding.specs.Load.{Load, Positive, alone, breakLoad}
+use Rattle.rounding.specs.Ramp.{reading}
+use Rattle.rounding.specs.Up.{ceilDiv, roundedUp}
 use Rattle.rounding.proofs.Ramps.{close-whole, exact-positive, line-positive, ramp-close, ramp-mono, reading-start, reading-end}
-use Rattle.rounding.proofs.Limits.{larger-is}
-use Rattle.standard.specs.Stretch.{Stretch, even, ramp, readIn, exactIn, startOf, segment, holds, readingAt, exactReadingAt, greatest, exactGreatest, Near}
+use Rattle.rounding.proofs.Limited.{larger-is, larger-left, larger-right, below-trans}
+use Rattle.standard.specs.Stretch.{Stretch, Near, even, ramp, noLoad, startOf, segment, holds}
+use Rattle.standard.specs.Stretch.{readIn, exactIn, readingAt, exactReadingAt, greatest, exactGreatest}
 
 -- a stretch fit to be read
-pub record Fine (s : Stretch) : Type 0 where
+pub record Readable (s : Stretch) : Type 0 where
   pub some : 0 < s .extent
   pub inside : s .skip + s .extent ≤ s .full
   pub from-positive : Positive (s .from)
   pub to-positive : Positive (s .to)
 
-pub full-positive : (s : Stretch) → Fine s → 0 < s .full
+pub full-positive : (s : Stretch) → Readable s → 0 < s .full
 full-positive s f = omega arith
 
-pub ramp-fine : (extent : ℕ) (l m : Load) → 0 < extent → Positive l → Positive m → Fine (ramp extent l m)
-ramp-fine extent l m h p q = record { some = h; inside = omega arith; from-positive = p; to-positive = q }
+pub ramp-readable : (extent : ℕ) (l m : Load) → 0 < extent → Positive l → Positive m → Readable (ramp extent l m)
+ramp-readable extent l m h p q = record { some = h; inside = omega arith; from-positive = p; to-positive = q }
 
-pub even-fine : (extent : ℕ) (l : Load) → 0 < extent → Positive l → Fine (even extent l)
-even-fine extent l h p = ramp-fine extent l l h p p
+pub even-readable : (extent : ℕ) (l : Load) → 0 < extent → Positive l → Readable (even extent l)
+even-readable extent l h p = ramp-readable extent l l h p p
+
+-- "Reading a cut ramp from its rounded end": a ramp of length 8 from 0 to 5, cut at 7 where it reads 5, reads 2 at 3
+pub cut-ramp : readIn (record { extent = 7; skip = 0; full = 8; from = noLoad; to = alone (over 5 1) }) 3 ≡ 2
+unfolding readIn reading breakLoad roundedUp ceilDiv
+cut-ramp = refl
 
 -- the load at an end that is not cut
-pub start-load : (s : Stretch) → Fine s → s .skip ≡ 0 → readIn s 0 ≡ breakLoad 1 (s .from)
+pub start-load : (s : Stretch) → Readable s → s .skip ≡ 0 → readIn s 0 ≡ breakLoad 1 (s .from)
 unfolding readIn
 start-load s f e =
     let z : s .skip + 0 ≡ 0 = omega arith in
     rw z (reading-start _ _ (s .full) (full-positive s f))
 
-pub end-load : (s : Stretch) → Fine s → s .skip + s .extent ≡ s .full → readIn s (s .extent) ≡ breakLoad 1 (s .to)
+pub end-load : (s : Stretch) → Readable s → s .skip + s .extent ≡ s .full → readIn s (s .extent) ≡ breakLoad 1 (s .to)
 unfolding readIn
 end-load s f e = rw e (reading-end _ _ (s .full) (full-positive s f))
 
@@ -57,7 +65,7 @@ near-nothing : Near 0 (over 0 1)
 unfolding AtMost Under
 near-nothing = record { positive = omega arith; low = omega arith; high = omega arith }
 
-pub near-in : (s : Stretch) (x : ℕ) → Fine s → x ≤ s .extent → Near (readIn s x) (exactIn s x)
+pub near-in : (s : Stretch) (x : ℕ) → Readable s → x ≤ s .extent → Near (readIn s x) (exactIn s x)
 unfolding readIn exactIn
 near-in s x f h =
     let hf = full-positive s f in
@@ -108,7 +116,7 @@ ramp-rises extent l m l' m' p q = record { extent = refl; skip = refl; full = re
 pub even-rises : (extent : ℕ) (l l' : Load) → Upward l l' → Rises (even extent l) (even extent l')
 even-rises extent l l' p = ramp-rises extent l l l' l' p p
 
-rise-in : (s t : Stretch) (x : ℕ) → Fine s → Fine t → Rises s t → readIn s x ≤ readIn t x
+rise-in : (s t : Stretch) (x : ℕ) → Readable s → Readable t → Rises s t → readIn s x ≤ readIn t x
 unfolding readIn
 rise-in s t x f g r =
     rw (← r .skip, ← r .full)
@@ -120,7 +128,7 @@ module _ (S : ℕ → Stretch) (p : ℕ) where
   unfolding holds
   within-reach i h = omega (arith, within-in (startOf S i) (startOf S i + S i .extent) p h .1)
 
-  near-at : (i : ℕ) → Fine (S i) → Near (readingAt S p i) (exactReadingAt S p i)
+  near-at : (i : ℕ) → Readable (S i) → Near (readingAt S p i) (exactReadingAt S p i)
   unfolding readingAt exactReadingAt
   near-at i f = go (holds (startOf S i) (S i .extent) p) refl
     where
@@ -130,7 +138,7 @@ module _ (S : ℕ → Stretch) (p : ℕ) where
       go true h = near-in (S i) (p - startOf S i) f (within-reach i h)
       go false h = near-nothing
 
-  pub near-greatest : (n : ℕ) → ((i : ℕ) → i < n → Fine (S i)) → Near (greatest S p n) (exactGreatest S p n)
+  pub near-greatest : (n : ℕ) → ((i : ℕ) → i < n → Readable (S i)) → Near (greatest S p n) (exactGreatest S p n)
   unfolding greatest exactGreatest
   near-greatest zero f = near-nothing
   near-greatest (suc n) f = near-max _ _ _ _ (near-greatest n (λ i h. f i (omega arith))) (near-at n (f n (omega arith)))
@@ -200,13 +208,64 @@ module _ (S : ℕ → Stretch) (p : ℕ) where
           let r : readingAt S p (v .at) ≡ readIn (S (v .at)) (p - startOf S (v .at)) = rw (v .held) in
           record { at = v .at; below = v .below; held = v .held; read = omega (arith, reads-less (suc n) (v .at) (v .below)) }
 
+  -- The same of the exact rule: none of the first n lies above the greatest, and the greatest is that of one of them.
+  exact-less : (n i : ℕ) → ((j : ℕ) → j < n → Readable (S j)) → i < n → Below (exactReadingAt S p i) (exactGreatest S p n)
+  unfolding exactGreatest
+  exact-less zero i f h = absurd (omega arith)
+  exact-less (suc n) i f h =
+      ⊎-elim
+      (λ (same : i ≡ n). rw same (larger-right (exactGreatest S p n) (exactReadingAt S p n)))
+      (λ (below : i < n).
+      below-trans _ (exactGreatest S p n) _ (near-greatest n (λ j k. f j (omega arith)) .positive)
+      (exact-less n i (λ j k. f j (omega arith)) below) (larger-left (exactGreatest S p n) (exactReadingAt S p n)))
+      (eq-or-lt-of-le {n = i} {m = n} (omega arith))
+
+  record ExactOf (n : ℕ) (e : Fraction) : Type 0 where
+    at : ℕ
+    below : at < n
+    read : e ≡ exactReadingAt S p at
+
+  is-exact : (n : ℕ) → ExactOf (suc n) (exactGreatest S p (suc n))
+  unfolding exactGreatest larger
+  is-exact zero = record { at = 0; below = omega arith; read = rw (le-leb (0 * exactReadingAt S p 0 .den) (exactReadingAt S p 0 .num * 1) (omega arith)) }
+  is-exact (suc n) =
+      let w = is-exact n in
+      larger-is (λ z. ExactOf (suc (suc n)) z) (exactGreatest S p (suc n)) (exactReadingAt S p (suc n))
+      (λ c. record { at = suc n; below = omega arith; read = refl })
+      (λ c. record { at = w .at; below = omega (arith, w .below); read = w .read })
+
+  -- of the first n, a stretch that holds the station has the exact rule's load there
+  pub record ExactHeld (n : ℕ) : Type 0 where
+    pub at : ℕ
+    pub below : at < n
+    pub held : holds (startOf S at) (S at .extent) p ≡ true
+    pub exact : Same (exactGreatest S p n) (exactIn (S at) (p - startOf S at))
+
+  -- Where the one that gives it does not hold the station, the greatest is 0, and so is the load of each that does.
+  pub one-exact : (n : ℕ) → ((i : ℕ) → i < n → Readable (S i)) → 0 < n → p ≤ startOf S n → ExactHeld n
+  unfolding exactReadingAt Same Below
+  one-exact (suc n) f pos h =
+      let w = is-exact n in
+      go w (holds (startOf S (w .at)) (S (w .at) .extent) p) refl
+    where
+      go : (w : ExactOf (suc n) (exactGreatest S p (suc n))) (b : Bool) → holds (startOf S (w .at)) (S (w .at) .extent) p ≡ b → ExactHeld (suc n)
+      go w true e =
+          let z : exactGreatest S p (suc n) ≡ exactIn (S (w .at)) (p - startOf S (w .at)) = w .read ∙ rw e in
+          record { at = w .at; below = w .below; held = e; exact = rw z }
+      go w false e =
+          let z : exactGreatest S p (suc n) ≡ over 0 1 = w .read ∙ rw e in
+          let v = covered (suc n) pos h in
+          let r : exactReadingAt S p (v .at) ≡ exactIn (S (v .at)) (p - startOf S (v .at)) = rw (v .held) in
+          let b : Below (exactIn (S (v .at)) (p - startOf S (v .at))) (over 0 1) = rw (r, z) at (exact-less (suc n) (v .at) f (v .below)) in
+          record { at = v .at; below = v .below; held = v .held; exact = rw z (omega (arith, b)) }
+
 module _ (S T : ℕ → Stretch) (p : ℕ) where
   same-start : (n : ℕ) → ((i : ℕ) → i < n → Rises (S i) (T i)) → startOf S n ≡ startOf T n
   unfolding startOf
   same-start zero r = refl
   same-start (suc n) r = omega (arith, same-start n (λ i h. r i (omega arith)), r n (omega arith) .extent)
 
-  rise-at : (i : ℕ) → startOf S i ≡ startOf T i → Fine (S i) → Fine (T i) → Rises (S i) (T i) → readingAt S p i ≤ readingAt T p i
+  rise-at : (i : ℕ) → startOf S i ≡ startOf T i → Readable (S i) → Readable (T i) → Rises (S i) (T i) → readingAt S p i ≤ readingAt T p i
   unfolding readingAt readIn
   rise-at i e f g r = rw (← e, ← r .extent) (go (holds (startOf S i) (S i .extent) p))
     where
@@ -215,7 +274,7 @@ module _ (S T : ℕ → Stretch) (p : ℕ) where
       go false = omega arith
 
   pub rise-greatest :
-      (n : ℕ) → ((i : ℕ) → i < n → Fine (S i)) → ((i : ℕ) → i < n → Fine (T i)) → ((i : ℕ) → i < n → Rises (S i) (T i))
+      (n : ℕ) → ((i : ℕ) → i < n → Readable (S i)) → ((i : ℕ) → i < n → Readable (T i)) → ((i : ℕ) → i < n → Rises (S i) (T i))
       → greatest S p n ≤ greatest T p n
   unfolding greatest
   rise-greatest zero f g r = omega arith
@@ -230,18 +289,31 @@ module _ (S T : ℕ → Stretch) (p : ℕ) where
 pub record WellFormed (S : ℕ → Stretch) (n end : ℕ) : Type 0 where
   pub some : 0 < n
   pub few : n ≤ 32
-  pub each : (i : ℕ) → i < n → Fine (S i)
+  pub each : (i : ℕ) → i < n → Readable (S i)
   pub first : startOf S 0 ≡ 0
   pub joined : (i : ℕ) → startOf S (suc i) ≡ startOf S i + S i .extent
   pub last : startOf S n ≡ end
 
 -- Starts are sums of lengths, so that a run begins at 0 and joins by itself.
-pub formed : (S : ℕ → Stretch) (n end : ℕ) → 0 < n → n ≤ 32 → ((i : ℕ) → i < n → Fine (S i)) → startOf S n ≡ end → WellFormed S n end
+pub formed :
+    (S : ℕ → Stretch) (n end : ℕ) → 0 < n → n ≤ 32 → ((i : ℕ) → i < n → Readable (S i)) → startOf S n ≡ end → WellFormed S n end
 unfolding startOf
 formed S n end some few each last = record { some = some; few = few; each = each; first = refl; joined = λ i. refl; last = last }
 
 pub outside : (low high x : ℕ) → within low high x ≡ false → low ≤ x → x ≤ high → ⊥
 outside low high x e a b = let z : _≡_ {A = ℕ} 0 1 = cc (le-leb low x a, le-leb x high b) in omega arith
+
+-- every start of a run lies before its end
+pub starts-up : (S : ℕ → Stretch) (i k : ℕ) → startOf S i ≤ startOf S (i + k)
+unfolding startOf
+starts-up S i zero = let e : i + 0 ≡ i = omega arith in rw e (omega arith)
+starts-up S i (suc k) = let e : i + suc k ≡ suc (i + k) = omega arith in rw e (omega (arith, starts-up S i k))
+
+pub starts-within : (S : ℕ → Stretch) (n end i : ℕ) → WellFormed S n end → i ≤ n → startOf S i ≤ end
+starts-within S n end i w h =
+    let e : i + (n - i) ≡ n = omega arith in
+    let up : startOf S i ≤ startOf S n = rw e at (starts-up S i (n - i)) in
+    omega (arith, w .last)
 
 -- In a row of n ramps between two even ends, of which either may be missing, one of two neighbours is a ramp.
 pub ramp-beside :

@@ -1,16 +1,17 @@
 -- Arrangements: which codes exist, how many segments each has, the stretch at an index, the roof's end, the load at a station
 -- and the exact rule there. One definition a kind, dispatched here.
-use Prim.Native.Nat.{ℕ, suc, _+_, _-_, _*_}
-use mathlib.Core.Bool.{Bool, true, false, cond, not, _&&_, _||_}
+use Prim.Native.Nat.{ℕ, suc, _+_, _*_}
+use mathlib.Core.Bool.{Bool, false, cond, not, _&&_, _||_}
 use mathlib.Core.List.{List}
-use lib.Dec.{leb, ltb, eqb}
+use lib.Dec.{ltb, eqb}
 use Rattle.figures.specs.Ranges.{within}
+use Rattle.figures.specs.RoofRules.{kindOf}
 use Rattle.figures.specs.declared.site.Site.{Site}
-use Rattle.figures.specs.declared.roof.Span.{Span}
 use Rattle.figures.specs.declared.roof.Shape.{Shape}
 use Rattle.figures.specs.declared.roof.Shape.the-variants.{Monopitch, Pitched, MultiSpan, Cylindrical, Abutting, Projection}
 use Rattle.figures.specs.declared.roof.Roof.{Roof}
 use Rattle.rounding.specs.Fraction.{Fraction}
+use Rattle.standard.specs.Codes.{accidental, baseCode, existsIn}
 use Rattle.standard.specs.Monopitch.{monopitch}
 use Rattle.standard.specs.Pitched.{pitched}
 use Rattle.standard.specs.MultiSpan.{multiSpan, widths}
@@ -19,36 +20,6 @@ use Rattle.standard.specs.Abutting.{abutting, abuttingCount}
 use Rattle.standard.specs.Projection.{projectionLength, projection, projectionCount}
 use Rattle.standard.specs.Stretch.{Stretch, segments, greatest, exactGreatest}
 use Rattle.standard.specs.declared.National.{National}
-
--- "Kind 2 has code 1; kind 3 has 1, 2, 3; kinds 4, 5, 6 have 1, 2; kind 7 has 2"
-unfoldable pub persistent : Shape → ℕ → Bool
-persistent (Monopitch slope guard) code = eqb code 1
-persistent (Pitched left right leftGuard rightGuard) code = eqb code 1 || eqb code 2 || eqb code 3
-persistent (MultiSpan count) code = eqb code 1 || eqb code 2
-persistent (Cylindrical rise span) code = eqb code 1 || eqb code 2
-persistent (Abutting b1 b2 h slope guard) code = eqb code 1 || eqb code 2
-persistent (Projection h left right) code = eqb code 2
-
--- "and never an accidental code"
-unfoldable pub exceptional : Shape → Bool
-exceptional (Monopitch slope guard) = true
-exceptional (Pitched left right leftGuard rightGuard) = true
-exceptional (MultiSpan count) = true
-exceptional (Cylindrical rise span) = true
-exceptional (Abutting b1 b2 h slope guard) = true
-exceptional (Projection h left right) = false
-
--- "Codes 11, 12, 13 are the same shapes times Cesl (5.2)"
-abbrev pub accidental : ℕ → Bool
-accidental code = leb 11 code
-
-abbrev pub baseCode : ℕ → ℕ
-baseCode code = cond (accidental code) (code - 10) code
-
--- "and exist in situation 1 only"
-unfoldable pub existsIn : Shape → ℕ → ℕ → Bool
-existsIn shape situation code =
-    cond (accidental code) (eqb situation 1 && exceptional shape && persistent shape (code - 10)) (persistent shape code)
 
 -- Cesl, which is 1 for the persistent codes, in hundredths
 abbrev pub exceptionalOf : Site → ℕ → ℕ
@@ -68,15 +39,15 @@ countIn national (Abutting b1 b2 h slope guard) code = abuttingCount national b2
 countIn national (Projection h left right) code = projectionCount h left right
 
 -- the stretch at an index
-unfoldable pub stretchIn : National → Shape → List Span → ℕ → ℕ → ℕ → ℕ → Stretch
-stretchIn national (Monopitch slope guard) spans factor sk code i = monopitch factor sk slope guard i
-stretchIn national (Pitched left right leftGuard rightGuard) spans factor sk code i =
+unfoldable pub stretchIn : National → Shape → List ℕ → ℕ → ℕ → ℕ → ℕ → Stretch
+stretchIn national (Monopitch slope guard) slopes factor sk code i = monopitch factor sk slope guard i
+stretchIn national (Pitched left right leftGuard rightGuard) slopes factor sk code i =
     pitched factor sk left right leftGuard rightGuard code i
-stretchIn national (MultiSpan count) spans factor sk code i = multiSpan factor sk spans count (eqb code 1) i
-stretchIn national (Cylindrical rise span) spans factor sk code i = cylindrical national factor sk rise span (eqb code 1) i
-stretchIn national (Abutting b1 b2 h slope guard) spans factor sk code i =
+stretchIn national (MultiSpan count) slopes factor sk code i = multiSpan factor sk slopes count (eqb code 1) i
+stretchIn national (Cylindrical rise span) slopes factor sk code i = cylindrical national factor sk rise span (eqb code 1) i
+stretchIn national (Abutting b1 b2 h slope guard) slopes factor sk code i =
     abutting national factor sk b1 b2 h slope guard (eqb code 1) i
-stretchIn national (Projection h left right) spans factor sk code i = projection factor sk h left right i
+stretchIn national (Projection h left right) slopes factor sk code i = projection factor sk h left right i
 
 -- which stretches are ramps; every other is even. In a row that begins with its second stretch the index is one less
 unfoldable pub rampedIn : National → Shape → ℕ → ℕ → Bool
@@ -88,28 +59,30 @@ rampedIn national (Abutting b1 b2 h slope guard) code i = not (eqb code 1) && eq
 rampedIn national (Projection h left right) code i = within 1 2 (cond (ltb (projectionLength h) left) i (suc i))
 
 -- the roof's length in quarter millimetres
-unfoldable pub endIn : Shape → List Span → ℕ
-endIn (Monopitch slope guard) spans = 4 * slope .width
-endIn (Pitched left right leftGuard rightGuard) spans = 4 * (left .width + right .width)
-endIn (MultiSpan count) spans = 4 * widths spans count
-endIn (Cylindrical rise span) spans = 4 * span
-endIn (Abutting b1 b2 h slope guard) spans = 4 * b2
-endIn (Projection h left right) spans = 4 * (left + right)
+unfoldable pub endIn : Shape → List ℕ → ℕ
+endIn (Monopitch slope guard) slopes = 4 * slope .width
+endIn (Pitched left right leftGuard rightGuard) slopes = 4 * (left .width + right .width)
+endIn (MultiSpan count) slopes = 4 * widths slopes (2 * count)
+endIn (Cylindrical rise span) slopes = 4 * span
+endIn (Abutting b1 b2 h slope guard) slopes = 4 * b2
+endIn (Projection h left right) slopes = 4 * (left + right)
 
--- the same of a site and a roof
+-- "An arrangement exists where these rules give its code to the roof in the site's situation" (document 01, words of demand 3)
 unfoldable pub exists : Site → Roof → ℕ → Bool
-exists site roof code = existsIn (roof .shape) (site .situation) code
+exists site roof code = existsIn (kindOf (roof .shape)) (site .situation) code
 
+-- the same of a roof: the number of segments, the stretch at an index, the end. A station (document 01's term) is a whole number,
+-- and lies on the roof from 0 to this end, both included
 unfoldable pub count : National → Roof → ℕ → ℕ
 count national roof code = countIn national (roof .shape) (baseCode code)
 
 unfoldable pub stretch : National → Site → Roof → ℕ → ℕ → Stretch
-stretch national site roof code i = stretchIn national (roof .shape) (roof .spans) (factorOf site code) (site .sk) (baseCode code) i
+stretch national site roof code i = stretchIn national (roof .shape) (roof .slopes) (factorOf site code) (site .sk) (baseCode code) i
 
 unfoldable pub endOf : Roof → ℕ
-endOf roof = endIn (roof .shape) (roof .spans)
+endOf roof = endIn (roof .shape) (roof .slopes)
 
--- the segments of an arrangement, four numbers each, and one of them
+-- the segments of an arrangement, four numbers each
 unfoldable pub arrangement : National → Site → Roof → ℕ → List ℕ
 arrangement national site roof code = segments (stretch national site roof code) (count national roof code)
 

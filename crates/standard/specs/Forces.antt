@@ -1,21 +1,20 @@
 -- Local forces, kinds 2 and 3, persistent, in N/m: the overhang at an eave and the force at a guard.
-use Prim.Native.Nat.{ℕ, _*_}
+use Prim.Native.Nat.{ℕ, _+_, _*_, _<_}
 use mathlib.Core.Bool.{cond}
 use lib.Dec.{ltb, eqb}
-use Rattle.figures.specs.RoofRules.{roofRefusal}
-use Rattle.figures.specs.SiteRules.{siteRefusal}
+use Rattle.figures.specs.Refusals.{figuresRefusal}
 use Rattle.figures.specs.declared.site.Site.{Site}
 use Rattle.figures.specs.declared.roof.Slope.{Slope}
 use Rattle.figures.specs.declared.roof.Shape.{Shape}
 use Rattle.figures.specs.declared.roof.Shape.the-variants.{Monopitch, Pitched, MultiSpan, Cylindrical, Abutting, Projection}
 use Rattle.figures.specs.declared.roof.Roof.{Roof}
-use Rattle.rounding.specs.Fraction.{Fraction, over}
+use Rattle.rounding.specs.Fraction.{Fraction, over, AtMost, Under}
 use Rattle.rounding.specs.Limit.{smaller}
-use Rattle.rounding.specs.Load.{Load, breakLoad}
+use Rattle.rounding.specs.Load.{Load, exact, breakLoad}
 use Rattle.rounding.specs.Up.{roundedUp}
 use Rattle.standard.specs.Arrangements.{factorOf}
 use Rattle.standard.specs.Coefficients.{slopeMu}
-use Rattle.standard.specs.Sine.{sineEntry}
+use Rattle.standard.specs.Sine.{sineReference, sineEntry}
 use Rattle.standard.specs.Stretch.{loadAlone}
 
 -- the slope of a roof by its number, with its guard: 1 left or only, 2 right; kinds 2 and 3 alone have slopes here
@@ -61,10 +60,6 @@ pub data Force : Type 0 where
   none : Force
   refused : ℕ → Force
 
--- the first broken rule on a site and a roof, 0 for none
-unfoldable pub valuesRefusal : Site → Roof → ℕ
-valuesRefusal site roof = cond (eqb (siteRefusal site) 0) (roofRefusal roof) (siteRefusal site)
-
 -- above 800 m, at a slope that the roof has
 unfoldable pub overhangAt : Site → SlopeAt → Force
 overhangAt site noSlope = none
@@ -72,7 +67,7 @@ overhangAt site (someSlope slope guard) = cond (ltb 800 (site .altitude)) (force
 
 unfoldable pub overhangAnswer : Site → Roof → ℕ → Force
 overhangAnswer site roof n =
-    cond (eqb (valuesRefusal site roof) 0) (overhangAt site (slopeAt (roof .shape) n)) (refused (valuesRefusal site roof))
+    cond (eqb (figuresRefusal site roof) 0) (overhangAt site (slopeAt (roof .shape) n)) (refused (figuresRefusal site roof))
 
 -- at a slope that the roof has and that has a guard
 unfoldable pub guardAt : Site → SlopeAt → Force
@@ -82,4 +77,31 @@ guardAt site (someSlope slope guard) =
 
 unfoldable pub guardAnswer : Site → Roof → ℕ → Force
 guardAnswer site roof n =
-    cond (eqb (valuesRefusal site roof) 0) (guardAt site (slopeAt (roof .shape) n)) (refused (valuesRefusal site roof))
+    cond (eqb (figuresRefusal site roof) 0) (guardAt site (slopeAt (roof .shape) n)) (refused (figuresRefusal site roof))
+
+-- r is not below f, and less than 10 above it
+pub record OverhangNear (r : ℕ) (f : Fraction) : Type 0 where
+  pub positive : 0 < f .den
+  pub low : AtMost f r
+  pub high : Under r f 10
+
+-- "never below the rule over the unrounded S and less than 10 above", of what is answered; there is no force at a slope that isn't there
+abbrev pub overhangDistance : Force → Site → SlopeAt → Type 0
+overhangDistance (force r) site (someSlope slope guard) = OverhangNear r (overhangRule (exact (slopeLoad site slope guard)))
+overhangDistance (force r) site noSlope = ⊥
+overhangDistance none site at = Unit
+overhangDistance (refused number) site at = Unit
+
+-- r is less than 2 below f, and less than the width in metres plus 3 above it; the width is in mm
+pub record GuardNear (r width : ℕ) (f : Fraction) : Type 0 where
+  pub positive : 0 < f .den
+  pub low : f .num < (r + 2) * f .den
+  pub high : r * f .den * 1000 < f .num * 1000 + (width + 3000) * f .den
+
+-- "less than 2 below and less than the width in metres plus 3 above the rule over the unrounded S and the reference", of what is answered
+abbrev pub guardDistance : Force → Site → SlopeAt → Type 0
+guardDistance (force r) site (someSlope slope guard) =
+    GuardNear r (slope .width) (guardRule (exact (slopeLoad site slope guard)) (slope .width) (sineReference (slope .pitch)))
+guardDistance (force r) site noSlope = ⊥
+guardDistance none site at = Unit
+guardDistance (refused number) site at = Unit

@@ -2,12 +2,15 @@ pub mod Abutting
 pub mod Answers
 pub mod Arrangements
 pub mod Bounds
+pub mod Codes
 pub mod Coefficients
 pub mod Cylindrical
 pub mod Forces
 pub mod Monopitch
 pub mod MultiSpan
+pub mod Numerators
 pub mod Pitched
 pub mod Projection
 pub mod Sine
 pub mod Stretch
+pub mod Units

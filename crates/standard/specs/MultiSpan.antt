@@ -1,42 +1,36 @@
 -- Kind 4, 5.3.4: code 1 has each slope's μ1. In code 2 the first and last slopes are even at their μ1; each inner slope runs
 -- from its own μ1 at the ridge to μ2 of the mean of the valley's two pitches. No guards.
-use Prim.Native.Nat.{ℕ, zero, suc, _+_, _-_, _*_, _/_, _%_}
+use Prim.Native.Nat.{ℕ, zero, suc, _+_, _-_, _*_, _%_}
 use mathlib.Core.Bool.{Bool, cond, _||_}
 use mathlib.Core.List.{List}
 use lib.Dec.{eqb}
-use Rattle.figures.specs.RoofRules.{spanAt}
-use Rattle.figures.specs.declared.roof.Slope.{Slope}
-use Rattle.figures.specs.declared.roof.Span.{Span}
+use Rattle.figures.specs.RoofRules.{slopeOf}
 use Rattle.rounding.specs.Load.{Load}
 use Rattle.standard.specs.Coefficients.{mu1, valleyMu}
 use Rattle.standard.specs.Stretch.{Stretch, ramp, loadAlone}
 
--- slope i from the left: the left and the right slope of each span by turns
-unfoldable pub slopeOf : List Span → ℕ → Slope
-slopeOf spans i = cond (eqb (i % 2) 0) (spanAt spans (i / 2) .left) (spanAt spans (i / 2) .right)
-
 -- the load of slope i's own μ1
-unfoldable pub ownLoad : ℕ → ℕ → List Span → ℕ → Load
-ownLoad factor sk spans i = loadAlone (mu1 (slopeOf spans i .pitch)) factor sk
+unfoldable pub ownLoad : ℕ → ℕ → List ℕ → ℕ → Load
+ownLoad factor sk slopes i = loadAlone (mu1 (slopeOf slopes i .pitch)) factor sk
 
 -- the load at the valley between slope i and the next
-unfoldable pub valleyLoad : ℕ → ℕ → List Span → ℕ → Load
-valleyLoad factor sk spans i = loadAlone (valleyMu (slopeOf spans i .pitch) (slopeOf spans (i + 1) .pitch)) factor sk
+unfoldable pub valleyLoad : ℕ → ℕ → List ℕ → ℕ → Load
+valleyLoad factor sk slopes i = loadAlone (valleyMu (slopeOf slopes i .pitch) (slopeOf slopes (i + 1) .pitch)) factor sk
 
 -- a left slope has its valley at its left end, a right slope at its right end; the first and the last slope have none
-unfoldable pub multiSpanFrom : ℕ → ℕ → List Span → Bool → ℕ → Load
-multiSpanFrom factor sk spans undrifted i =
-    cond (undrifted || eqb i 0 || eqb (i % 2) 1) (ownLoad factor sk spans i) (valleyLoad factor sk spans (i - 1))
+unfoldable pub multiSpanFrom : ℕ → ℕ → List ℕ → Bool → ℕ → Load
+multiSpanFrom factor sk slopes undrifted i =
+    cond (undrifted || eqb i 0 || eqb (i % 2) 1) (ownLoad factor sk slopes i) (valleyLoad factor sk slopes (i - 1))
 
-unfoldable pub multiSpanTo : ℕ → ℕ → List Span → ℕ → Bool → ℕ → Load
-multiSpanTo factor sk spans count undrifted i =
-    cond (undrifted || eqb (i + 1) (2 * count) || eqb (i % 2) 0) (ownLoad factor sk spans i) (valleyLoad factor sk spans i)
+unfoldable pub multiSpanTo : ℕ → ℕ → List ℕ → ℕ → Bool → ℕ → Load
+multiSpanTo factor sk slopes count undrifted i =
+    cond (undrifted || eqb (i + 1) (2 * count) || eqb (i % 2) 0) (ownLoad factor sk slopes i) (valleyLoad factor sk slopes i)
 
-unfoldable pub multiSpan : ℕ → ℕ → List Span → ℕ → Bool → ℕ → Stretch
-multiSpan factor sk spans count undrifted i =
-    ramp (4 * slopeOf spans i .width) (multiSpanFrom factor sk spans undrifted i) (multiSpanTo factor sk spans count undrifted i)
+unfoldable pub multiSpan : ℕ → ℕ → List ℕ → ℕ → Bool → ℕ → Stretch
+multiSpan factor sk slopes count undrifted i =
+    ramp (4 * slopeOf slopes i .width) (multiSpanFrom factor sk slopes undrifted i) (multiSpanTo factor sk slopes count undrifted i)
 
--- the widths of the first n spans together
-unfoldable pub widths : List Span → ℕ → ℕ
-widths spans zero = 0
-widths spans (suc n) = widths spans n + (spanAt spans n .left .width + spanAt spans n .right .width)
+-- the widths of the first n slopes together
+unfoldable pub widths : List ℕ → ℕ → ℕ
+widths slopes zero = 0
+widths slopes (suc n) = widths slopes n + slopeOf slopes n .width

@@ -10,22 +10,22 @@ use Rattle.standard.specs.Stretch.{Stretch, even, loadAlone, eightTenths
 abbrev pub projectionLength : ℕ → ℕ
 projectionLength h = driftLength 5000 15000 h
 
-unfoldable pub obstacleLoad : ℕ → ℕ → ℕ → Load
-obstacleLoad factor sk h = loadAlone (muProjection h sk) factor sk
+unfoldable pub projectionLoad : ℕ → ℕ → ℕ → Load
+projectionLoad factor sk h = loadAlone (muProjection h sk) factor sk
 
 -- from left to right: even, ramp up, ramp down, even; a ramp is cut where the roof ends inside it
-unfoldable pub besides : ℕ → Load → Load → ℕ → ℕ → ℕ → Stretch
-besides ls peak rest left right zero = even (4 * (left - ls)) rest
-besides ls peak rest left right (suc zero) =
+unfoldable pub projectionRow : ℕ → Load → Load → ℕ → ℕ → ℕ → Stretch
+projectionRow ls peak rest left right zero = even (4 * (left - ls)) rest
+projectionRow ls peak rest left right (suc zero) =
     record { extent = 4 * min left ls; skip = 4 * (ls - left); full = 4 * ls; from = rest; to = peak }
-besides ls peak rest left right (suc (suc zero)) =
+projectionRow ls peak rest left right (suc (suc zero)) =
     record { extent = 4 * min right ls; skip = 0; full = 4 * ls; from = peak; to = rest }
-besides ls peak rest left right (suc (suc (suc i))) = even (4 * (right - ls)) rest
+projectionRow ls peak rest left right (suc (suc (suc i))) = even (4 * (right - ls)) rest
 
 -- the row without its even ends where a width is all ramp
 unfoldable pub projection : ℕ → ℕ → ℕ → ℕ → ℕ → ℕ → Stretch
 projection factor sk h left right i =
-    besides (projectionLength h) (obstacleLoad factor sk h) (eightTenths factor sk) left right
+    projectionRow (projectionLength h) (projectionLoad factor sk h) (eightTenths factor sk) left right
     (cond (ltb (projectionLength h) left) i (suc i))
 
 unfoldable pub projectionCount : ℕ → ℕ → ℕ → ℕ

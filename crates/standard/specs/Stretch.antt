@@ -9,6 +9,7 @@ use Rattle.rounding.specs.Fraction.{Fraction, over, AtMost, Under}
 use Rattle.rounding.specs.Limit.{larger}
 use Rattle.rounding.specs.Load.{Load, alone, exact, breakLoad}
 use Rattle.rounding.specs.Ramp.{line, reading}
+use Rattle.standard.specs.Units.{parts}
 
 -- its length on the roof, how far into the uncut ramp it begins, the ramp's whole length, and the ramp's loads at its two ends
 pub record Stretch : Type 0 where
@@ -43,7 +44,7 @@ noLoad = alone (over 0 1)
 
 -- the reading x into a stretch: the line between the rounded break loads of the uncut ramp, rounded up
 unfoldable pub readIn : Stretch → ℕ → ℕ
-readIn s x = reading (breakLoad 1 (s .from)) (breakLoad 1 (s .to)) (s .full) (s .skip + x)
+readIn s x = reading (breakLoad parts (s .from)) (breakLoad parts (s .to)) (s .full) (s .skip + x)
 
 -- the exact rule x into a stretch: the same line, no load rounded
 unfoldable pub exactIn : Stretch → ℕ → Fraction

@@ -4,20 +4,19 @@ use mathlib.Core.List.{List, _++_}
 use lib.ListN.{length, drop}
 use Rattle.figures.specs.declared.site.Site.{Site}
 use Rattle.figures.specs.declared.roof.Roof.{Roof}
-use Rattle.sheet.specs.Items.{Content, site, roof, malformed, content}
 use Rattle.sheet.specs.Sheet as sheets
+use Rattle.sheet.specs.declared.finding.Finding.{Finding}
+use Rattle.sheet.specs.declared.finding.Finding.the-variants.{RoofFound, NoRoof, Refused}
+use Rattle.sheet.specs.declared.finding.Found.{Found}
 use Rattle.standard.specs.Answers.{Answer, value, refused, makeAnswer, loadAnswer}
 use Rattle.standard.specs.Arrangements.{stretch}
 use Rattle.standard.specs.Coefficients.{recommendedFigures}
 use Rattle.standard.specs.Forces as forces
 use Rattle.standard.specs.Stretch.{segments}
-use Rattle.terminal.specs.declared.finding.Finding.{Finding}
-use Rattle.terminal.specs.declared.finding.Finding.the-variants.{RoofFound, NoRoof, Refused}
-use Rattle.terminal.specs.declared.finding.Found.{Found}
 
--- a refusal: 0x80000000 + 256 × number + item, and an index above 255 shows as 255
+-- a refusal, as the header has it: 0x80000000 + 65,536 × number + item, and an index above 65,535 shows as 65,535
 unfoldable pub refusalCode : ℕ → ℕ → ℕ
-refusalCode number item = 2147483648 + 256 * number + min item 255
+refusalCode number item = 2147483648 + 65536 * number + min item 65535
 
 -- "none" is 0xFFFFFFFF
 abbrev pub noneCode : ℕ
@@ -28,61 +27,40 @@ abbrev pub verdictCode : sheets.Answer ℕ → ℕ
 verdictCode (sheets.accepted n) = n
 verdictCode (sheets.refused number item) = refusalCode number item
 
--- what a call on an item works from: the sheet's site and the item's roof, no roof, or the refusal of sheet or index
-pub data Target : Type 0 where
-  figures : Site → Roof → Target
-  noRoof : Target
-  refusedAt : ℕ → ℕ → Target
-
-abbrev pub targetOf : Content → Content → Target
-targetOf (site s) (roof r) = figures s r
-targetOf (site s) (site t) = noRoof
-targetOf (site s) (malformed number) = noRoof
-targetOf (roof q) c = noRoof
-targetOf (malformed number) c = noRoof
-
--- "The rules on the sheet come first, then 12 for an index not below n"
-abbrev pub targetBy : sheets.Answer sheets.Place → List ℕ → ℕ → Target
-targetBy (sheets.accepted p) sheet item = targetOf (content (sheets.part sheet 0)) (content (sheets.part sheet item))
-targetBy (sheets.refused number at) sheet item = refusedAt number at
-
-unfoldable pub target : List ℕ → ℕ → Target
-target sheet item = targetBy (sheets.place sheets.terminals sheet item) sheet item
-
--- what a finding says
-abbrev pub foundBy : Finding → Site → Roof → Target
-foundBy RoofFound s r = figures s r
-foundBy NoRoof s r = noRoof
-foundBy (Refused number at) s r = refusedAt number at
-
-abbrev pub foundMeans : Found → Target
-foundMeans f = foundBy (f .finding) (f .site) (f .roof)
-
 -- a number, or a refusal of the item
 abbrev pub answerCode : ℕ → Answer → ℕ
 answerCode item (value n) = n
 answerCode item (refused number) = refusalCode number item
 
--- "then 13 (an item that is the site has no arrangement ..), then 11 or 12"
-abbrev pub makeCode : Target → ℕ → ℕ → ℕ → ℕ
-makeCode (figures s r) item code room = answerCode item (makeAnswer recommendedFigures s r code room)
-makeCode noRoof item code room = refusalCode 13 item
-makeCode (refusedAt number at) item code room = refusalCode number at
+-- "then 13, then 11 or 12"; the site has no arrangement, as the header has it: 13
+abbrev pub makeBy : Finding → Site → Roof → ℕ → ℕ → ℕ → ℕ
+makeBy RoofFound s r item code room = answerCode item (makeAnswer recommendedFigures s r code room)
+makeBy NoRoof s r item code room = refusalCode 13 item
+makeBy (Refused number at) s r item code room = refusalCode number at
 
-abbrev pub loadCode : Target → ℕ → ℕ → ℕ → ℕ
-loadCode (figures s r) item code station = answerCode item (loadAnswer recommendedFigures s r code station)
-loadCode noRoof item code station = refusalCode 13 item
-loadCode (refusedAt number at) item code station = refusalCode number at
+abbrev pub makeCode : Found → ℕ → ℕ → ℕ → ℕ
+makeCode f item code room = makeBy (f .finding) (f .site) (f .roof) item code room
+
+abbrev pub loadBy : Finding → Site → Roof → ℕ → ℕ → ℕ → ℕ
+loadBy RoofFound s r item code station = answerCode item (loadAnswer recommendedFigures s r code station)
+loadBy NoRoof s r item code station = refusalCode 13 item
+loadBy (Refused number at) s r item code station = refusalCode number at
+
+abbrev pub loadCode : Found → ℕ → ℕ → ℕ → ℕ
+loadCode f item code station = loadBy (f .finding) (f .site) (f .roof) item code station
 
 -- the slice after a call: the segments at its front and its old contents behind them; after a refusal its old contents
 abbrev pub sliceBy : Answer → Site → Roof → ℕ → List ℕ → List ℕ
 sliceBy (value n) s r code old = segments (stretch recommendedFigures s r code) n ++ drop (4 * n) old
 sliceBy (refused number) s r code old = old
 
-abbrev pub sliceAfter : Target → ℕ → List ℕ → List ℕ
-sliceAfter (figures s r) code old = sliceBy (makeAnswer recommendedFigures s r code (length old)) s r code old
-sliceAfter noRoof code old = old
-sliceAfter (refusedAt number at) code old = old
+abbrev pub sliceFor : Finding → Site → Roof → ℕ → List ℕ → List ℕ
+sliceFor RoofFound s r code old = sliceBy (makeAnswer recommendedFigures s r code (length old)) s r code old
+sliceFor NoRoof s r code old = old
+sliceFor (Refused number at) s r code old = old
+
+abbrev pub sliceAfter : Found → ℕ → List ℕ → List ℕ
+sliceAfter f code old = sliceFor (f .finding) (f .site) (f .roof) code old
 
 -- a force, "none", or a refusal of the item
 abbrev pub forceCode : ℕ → forces.Force → ℕ
@@ -90,13 +68,19 @@ forceCode item (forces.force newtons) = newtons
 forceCode item forces.none = noneCode
 forceCode item (forces.refused number) = refusalCode number item
 
--- "its local forces are none": those of the site
-abbrev pub overhangCode : Target → ℕ → ℕ → ℕ
-overhangCode (figures s r) item slope = forceCode item (forces.overhangAnswer s r slope)
-overhangCode noRoof item slope = noneCode
-overhangCode (refusedAt number at) item slope = refusalCode number at
+-- the site has no local forces, as the header has it: "none"
+abbrev pub overhangBy : Finding → Site → Roof → ℕ → ℕ → ℕ
+overhangBy RoofFound s r item slope = forceCode item (forces.overhangAnswer s r slope)
+overhangBy NoRoof s r item slope = noneCode
+overhangBy (Refused number at) s r item slope = refusalCode number at
 
-abbrev pub guardCode : Target → ℕ → ℕ → ℕ
-guardCode (figures s r) item slope = forceCode item (forces.guardAnswer s r slope)
-guardCode noRoof item slope = noneCode
-guardCode (refusedAt number at) item slope = refusalCode number at
+abbrev pub overhangCode : Found → ℕ → ℕ → ℕ
+overhangCode f item slope = overhangBy (f .finding) (f .site) (f .roof) item slope
+
+abbrev pub guardBy : Finding → Site → Roof → ℕ → ℕ → ℕ
+guardBy RoofFound s r item slope = forceCode item (forces.guardAnswer s r slope)
+guardBy NoRoof s r item slope = noneCode
+guardBy (Refused number at) s r item slope = refusalCode number at
+
+abbrev pub guardCode : Found → ℕ → ℕ → ℕ
+guardCode f item slope = guardBy (f .finding) (f .site) (f .roof) item slope

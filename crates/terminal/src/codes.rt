@@ -12,18 +12,18 @@ use reading::Reading;
 // The answer where there is no such force.
 pub const NONE: u32 = 0xFFFF_FFFF;
 
-// The lesser of an index and 255.
+// The lesser of an index and 65,535.
 fn shown(item: usize) -> u32
-    ensures { λ r. ⌜ r ≡ min item 255 ⌝ }
+    ensures { λ r. ⌜ r ≡ min item 65535 ⌝ }
 {
-    if item < 255 { item as u32 } else { 255 }
+    if item < 65_535 { item as u32 } else { 65_535 }
 }
 
 // A refusal with its number and the item that it names.
 pub fn refusal(number: u8, item: usize) -> u32
     ensures { λ r. ⌜ r ≡ refusalCode number item ⌝ }
 {
-    0x8000_0000 + 256 * number as u32 + shown(item)
+    0x8000_0000 + 65_536 * number as u32 + shown(item)
 }
 
 // A force, none, or the refusal of an item.

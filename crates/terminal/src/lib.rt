@@ -1,21 +1,17 @@
 // Calls for the terminals' firmware, in C's terms. Each takes any bytes as a sheet; a slice is a pointer and its length.
+mod answers;
 mod codes;
-mod finding;
 
 ghost use mathlib.Core.Path.{_≡_};
 ghost use Prim.Native.Nat.{_≤_};
 ghost use lib.ListN.{length};
 ghost use Rattle.listing.specs.Listing.{listed, bytesAfter};
+ghost use Rattle.sheet.specs.Find.{found};
 ghost use Rattle.sheet.specs.Sheet.{sheetVerdict, terminals};
-ghost use Rattle.terminal.specs.Calls.{target, verdictCode, makeCode, sliceAfter, loadCode, overhangCode, guardCode};
-use codes::NONE;
+ghost use Rattle.terminal.specs.Calls.{verdictCode, makeCode, sliceAfter, loadCode, overhangCode, guardCode};
 use codes::refusal;
-use finding::Finding;
-use finding::find;
 use sheet::Verdict;
-
-// The refusal of a code, by document 01's number.
-const NO_ARRANGEMENT: u8 = 13;
+use sheet::find;
 
 // The count of a sheet's items, or a refusal.
 #[no_mangle]
@@ -31,70 +27,34 @@ pub extern "C" fn snow_verdict(sheet: &[u8]) -> u32
 // The count of segments of an item's arrangement, which are at the front of the slice; or a refusal, which alters nothing.
 #[no_mangle]
 pub extern "C" fn snow_make(sheet: &[u8], item: usize, code: u8, out: &mut [u32]) -> u32
-    ensures { λ r. ⌜ r ≡ makeCode (target (now (sheet .entry)) item) item code (length (now (out .entry))) ⌝ }
-    ensures { λ _. ⌜ now (out .exit) ≡ sliceAfter (target (now (sheet .entry)) item) code (now (out .entry)) ⌝ }
+    ensures { λ r. ⌜ r ≡ makeCode (found (now (sheet .entry)) item) item code (length (now (out .entry))) ⌝ }
+    ensures { λ _. ⌜ now (out .exit) ≡ sliceAfter (found (now (sheet .entry)) item) code (now (out .entry)) ⌝ }
 {
-    let found = find(sheet, item);
-    let finding = found.finding;
-    match finding {
-        Finding::RoofFound => {
-            let answer = arrangement::make(found.site, found.roof, code, out);
-            codes::made(answer, item)
-        }
-        Finding::NoRoof => refusal(NO_ARRANGEMENT, item),
-        Finding::Refused(number, at) => refusal(number, at),
-    }
+    answers::make_at(find(sheet, item), item, code, out)
 }
 
 // The load at a station of an item's arrangement, or a refusal.
 #[no_mangle]
 pub extern "C" fn snow_load(sheet: &[u8], item: usize, code: u8, station: u32) -> u32
-    ensures { λ r. ⌜ r ≡ loadCode (target (now (sheet .entry)) item) item code station ⌝ }
+    ensures { λ r. ⌜ r ≡ loadCode (found (now (sheet .entry)) item) item code station ⌝ }
 {
-    let found = find(sheet, item);
-    let finding = found.finding;
-    match finding {
-        Finding::RoofFound => {
-            let answer = reading::load_at(found.site, found.roof, code, station);
-            codes::load(answer, item)
-        }
-        Finding::NoRoof => refusal(NO_ARRANGEMENT, item),
-        Finding::Refused(number, at) => refusal(number, at),
-    }
+    answers::load_at(find(sheet, item), item, code, station)
 }
 
 // The overhang at a slope of an item, none, or a refusal.
 #[no_mangle]
 pub extern "C" fn snow_overhang(sheet: &[u8], item: usize, slope: u8) -> u32
-    ensures { λ r. ⌜ r ≡ overhangCode (target (now (sheet .entry)) item) item slope ⌝ }
+    ensures { λ r. ⌜ r ≡ overhangCode (found (now (sheet .entry)) item) item slope ⌝ }
 {
-    let found = find(sheet, item);
-    let finding = found.finding;
-    match finding {
-        Finding::RoofFound => {
-            let answer = local_forces::overhang(found.site, found.roof, slope);
-            codes::force(answer, item)
-        }
-        Finding::NoRoof => NONE,
-        Finding::Refused(number, at) => refusal(number, at),
-    }
+    answers::overhang_at(find(sheet, item), item, slope)
 }
 
 // The force at the guard of a slope of an item, none, or a refusal.
 #[no_mangle]
 pub extern "C" fn snow_guard_force(sheet: &[u8], item: usize, slope: u8) -> u32
-    ensures { λ r. ⌜ r ≡ guardCode (target (now (sheet .entry)) item) item slope ⌝ }
+    ensures { λ r. ⌜ r ≡ guardCode (found (now (sheet .entry)) item) item slope ⌝ }
 {
-    let found = find(sheet, item);
-    let finding = found.finding;
-    match finding {
-        Finding::RoofFound => {
-            let answer = local_forces::guard_force(found.site, found.roof, slope);
-            codes::force(answer, item)
-        }
-        Finding::NoRoof => NONE,
-        Finding::Refused(number, at) => refusal(number, at),
-    }
+    answers::guard_force_at(find(sheet, item), item, slope)
 }
 
 // The bytes of a sheet's listing, which is at the front of the lent bytes; 0, and nothing is written, where they are
@@ -105,5 +65,6 @@ pub extern "C" fn snow_list(sheet: &[u8], out: &mut [u8]) -> usize
     ensures { λ _. ⌜ now (out .exit) ≡ bytesAfter (now (sheet .entry)) (now (out .entry)) ⌝ }
     ensures { λ r. ⌜ r ≤ length (now (out .exit)) ⌝ }
 {
-    listing::list(sheet, out)
+    let mut numbers = [0; listing::NUMBERS];
+    listing::list(sheet, &mut numbers, out)
 }

@@ -13,7 +13,7 @@ use lib.Seq.{sets, length-sets, sets-eq, take-suc}
 use Rattle.text.specs.Text.{Wrote, decimalIn, decimal, digit, pairOf, fourOf}
 
 -- one text behind the other is their append
-sets-append : (b : List ℕ) (at : ℕ) (m n : List ℕ) → sets (sets b at m) (at + length m) n ≡ sets b at (m ++ n)
+pub sets-append : (b : List ℕ) (at : ℕ) (m n : List ℕ) → sets (sets b at m) (at + length m) n ≡ sets b at (m ++ n)
 sets-append b at [] n = ap (λ (k : ℕ). sets b k n) (omega arith)
 sets-append b at (x ∷ m) n =
     let e : at + suc (length m) ≡ suc at + length m = omega arith in
@@ -31,7 +31,7 @@ pub byte : (b : List ℕ) (at x : ℕ) → Wrote b at (x ∷ []) (set b at x) (a
 byte b at x = record { bytes = refl; end = refl }
 
 -- the number of digits does not matter where it is enough
-fuel : (f n : ℕ) → n < 10 ^ suc f → decimalIn (suc f) n ≡ decimalIn f n
+pub fuel : (f n : ℕ) → n < 10 ^ suc f → decimalIn (suc f) n ≡ decimalIn f n
 fuel zero n h =
     let e : n % 10 ≡ n = omega arith in
     simp (lt-ltb n 10 (omega arith), e)
@@ -39,7 +39,9 @@ fuel (suc f) n h =
     let p : 10 ^ suc (suc f) ≡ 10 ^ suc f * 10 = pow-suc 10 (suc f) in
     ap (λ (l : List ℕ). cond (ltb n 10) ((48 + n) ∷ []) (l ++ ((48 + n % 10) ∷ []))) (fuel f (n / 10) (omega arith))
 
-short-by : (t : Bool) (f n : ℕ) → length (decimalIn f (n / 10)) ≤ suc f → length (cond t ((48 + n) ∷ []) (decimalIn f (n / 10) ++ ((48 + n % 10) ∷ []))) ≤ suc (suc f)
+short-by :
+    (t : Bool) (f n : ℕ) → length (decimalIn f (n / 10)) ≤ suc f
+    → length (cond t ((48 + n) ∷ []) (decimalIn f (n / 10) ++ ((48 + n % 10) ∷ []))) ≤ suc (suc f)
 short-by true f n h = omega arith
 short-by false f n h = simp length-append (omega arith)
 
@@ -59,7 +61,8 @@ step : (f n : ℕ) → 10 ≤ n → n < 10 ^ suc (suc f) → decimalIn (suc f) n
 step f n h s =
     let p : 10 ^ suc (suc f) ≡ 10 ^ suc f * 10 = pow-suc 10 (suc f) in
     let e : decimalIn (suc f) (n / 10) ≡ decimalIn f (n / 10) = fuel f (n / 10) (omega arith) in
-    ap (λ (t : Bool). cond t ((48 + n) ∷ []) (decimalIn f (n / 10) ++ ((48 + n % 10) ∷ []))) (le-ltb n 10 h) ∙ ap (λ (l : List ℕ). l ++ ((48 + n % 10) ∷ [])) (sym e)
+    ap (λ (t : Bool). cond t ((48 + n) ∷ []) (decimalIn f (n / 10) ++ ((48 + n % 10) ∷ []))) (le-ltb n 10 h)
+    ∙ ap (λ (l : List ℕ). l ++ ((48 + n % 10) ∷ [])) (sym e)
 
 pub more-digits : (n : ℕ) → 10 ≤ n → n < 2 ^ 32 → decimal n ≡ decimal (n / 10) ++ ((48 + n % 10) ∷ [])
 unfolding decimal
@@ -77,7 +80,9 @@ wrote-as {a} {b} {m} {n} {at} {r} w e = subst (λ (l : List ℕ). Wrote a at l b
 pub room : {before after text : List ℕ} {at r : ℕ} → Wrote before at text after r → length after ≡ length before
 room {before} {after} {text} {at} {r} w = ap length (w .bytes) ∙ length-sets before at text
 
-pub in-place : {before after text : List ℕ} {at r : ℕ} → Wrote before at text after r → at + length text ≤ length before → after ≡ take at before ++ text ++ drop r before
+pub in-place :
+    {before after text : List ℕ} {at r : ℕ} → Wrote before at text after r → at + length text ≤ length before
+    → after ≡ take at before ++ text ++ drop r before
 in-place {before} {after} {text} {at} {r} w h =
     w .bytes ∙ (sets-eq text before at h ∙ ap (λ (n : ℕ). take at before ++ text ++ drop n before) (sym (w .end)))
 
@@ -85,7 +90,9 @@ in-place {before} {after} {text} {at} {r} w h =
 pub nothing : (b : List ℕ) (at : ℕ) (text : List ℕ) → Wrote b at (take 0 text) b (at + 0)
 nothing b at text = record { bytes = refl; end = refl }
 
-pub one-more : {b c : List ℕ} {at : ℕ} (text : List ℕ) (i : ℕ) → i < length text → Wrote b at (take i text) c (at + i) → Wrote b at (take (i + 1) text) (set c (at + i) (getD text i 0)) (at + (i + 1))
+pub one-more :
+    {b c : List ℕ} {at : ℕ} (text : List ℕ) (i : ℕ) → i < length text → Wrote b at (take i text) c (at + i)
+    → Wrote b at (take (i + 1) text) (set c (at + i) (getD text i 0)) (at + (i + 1))
 one-more {b} {c} {at} text i h w =
     let e : take (i + 1) text ≡ take i text ++ (getD text i 0 ∷ []) = ap (λ (k : ℕ). take k text) (add-one i) ∙ take-suc text i 0 h in
     let f : at + i + 1 ≡ at + (i + 1) = omega arith in

@@ -26,7 +26,8 @@ fn agrees(sheet: &[u8], text: &[u8], room: &mut [u8]) -> bool
     ensures { λ r. ⌜ (r ≡ true → listing (now (sheet .entry)) ≡ now (text .entry)) ⌝ }
     ensures { λ r. ⌜ (listing (now (sheet .entry)) ≡ now (text .entry) → r ≡ true) ⌝ }
 {
-    let n = listing::list(sheet, room);
+    let mut numbers = [0; listing::NUMBERS];
+    let n = listing::list(sheet, &mut numbers, room);
     check::same(&room[..n], text)
 }
 

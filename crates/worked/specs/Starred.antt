@@ -4,10 +4,10 @@ use Prim.Native.Nat.{ℕ}
 use mathlib.Core.Path.{_≡_, refl}
 use mathlib.Core.List.{List, [], _∷_}
 use lib.ListN.{replicate}
-use Rattle.figures.specs.RoofRules.{noSpan, spansFields, shapeFields, steepValleys, steep, highRise, roofRefusal}
+use Rattle.figures.specs.RoofRules.{roofOf, noSlopes, slopeOf, slopesFields, steepValleys, shapeRefusal, roofRefusal}
+use Rattle.figures.specs.Rules.{firstOf}
 use Rattle.figures.specs.declared.site.Site.{Site}
 use Rattle.figures.specs.declared.roof.Slope.{Slope}
-use Rattle.figures.specs.declared.roof.Shape.{Shape}
 use Rattle.figures.specs.declared.roof.Shape.the-variants.{Monopitch, Pitched, MultiSpan, Cylindrical, Abutting}
 use Rattle.figures.specs.declared.roof.Roof.{Roof}
 use Rattle.rounding.specs.Fraction.{sum}
@@ -21,7 +21,7 @@ use Rattle.standard.specs.Coefficients.{recommendedFigures, mu1, guarded, mu2, 
 use Rattle.standard.specs.Cylindrical.{firstFrom, wideEnough, loadedWidth, archEven, archDrift, peakLoad, halfLoad, cylindrical, cylindricalCount}
 use Rattle.standard.specs.Forces.{overhangRule, overhangForce}
 use Rattle.standard.specs.Monopitch.{monopitch}
-use Rattle.standard.specs.MultiSpan.{slopeOf, ownLoad, valleyLoad, multiSpanFrom, multiSpanTo, multiSpan}
+use Rattle.standard.specs.MultiSpan.{ownLoad, valleyLoad, multiSpanFrom, multiSpanTo, multiSpan}
 use Rattle.standard.specs.Pitched.{pitched}
 use Rattle.standard.specs.Stretch.{load, readIn, startOf, segment, segments, holds, readingAt, greatest}
 
@@ -31,29 +31,19 @@ siteOf sk = record { sk = sk; ce = 100; ct = 100; cesl = 200; situation = 0; alt
 abbrev pub slopeOfPitch : ℕ → ℕ → Slope
 slopeOfPitch pitch width = record { pitch = pitch; width = width }
 
-abbrev pub roofOf : Shape → Roof
-roofOf shape = record { shape = shape; spans = replicate 16 noSpan }
-
 -- two spans whose slopes have these pitches, each 4,000 wide
 abbrev pub twoSpans : ℕ → ℕ → ℕ → ℕ → Roof
-twoSpans a b c d =
-    record {
-      shape = MultiSpan 2;
-      spans =
-          record { left = slopeOfPitch a 4000; right = slopeOfPitch b 4000 }
-          ∷ record { left = slopeOfPitch c 4000; right = slopeOfPitch d 4000 }
-          ∷ replicate 14 noSpan;
-    }
+twoSpans a b c d = roofOf (MultiSpan 2) (a ∷ 4000 ∷ b ∷ 4000 ∷ c ∷ 4000 ∷ d ∷ 4000 ∷ replicate 56 0)
 
 abbrev pub monopitchRoof : ℕ → ℕ → Roof
-monopitchRoof pitch guard = roofOf (Monopitch (slopeOfPitch pitch 5000) guard)
+monopitchRoof pitch guard = roofOf (Monopitch (slopeOfPitch pitch 5000) guard) noSlopes
 
 abbrev pub pitchedRoof : Roof
-pitchedRoof = roofOf (Pitched (slopeOfPitch 200 4000) (slopeOfPitch 400 6000) 0 0)
+pitchedRoof = roofOf (Pitched (slopeOfPitch 200 4000) (slopeOfPitch 400 6000) 0 0) noSlopes
 
 -- b1 = 10,000, h = 3,000, an upper slope 6,000 wide
 abbrev pub lowerRoof : ℕ → ℕ → Roof
-lowerRoof b2 pitch = roofOf (Abutting 10000 b2 3000 (slopeOfPitch pitch 6000) 0)
+lowerRoof b2 pitch = roofOf (Abutting 10000 b2 3000 (slopeOfPitch pitch 6000) 0) noSlopes
 
 abbrev pub made : ℕ → Roof → ℕ → List ℕ
 made sk roof code = arrangement recommendedFigures (siteOf sk) roof code
@@ -75,9 +65,9 @@ computed =
     ∷ made 1000 (twoSpans 200 200 100 100) 2
     ∷ (roofRefusal (twoSpans 10 600 600 10) ∷ [])
     -- kind 5: 3,000/20,000; the loaded width of 1,000/2,000, and its code 2
-    ∷ made 1000 (roofOf (Cylindrical 3000 20000)) 2
+    ∷ made 1000 (roofOf (Cylindrical 3000 20000) noSlopes) 2
     ∷ (loadedWidth 1000 2000 ∷ [])
-    ∷ made 1000 (roofOf (Cylindrical 1000 2000)) 2
+    ∷ made 1000 (roofOf (Cylindrical 1000 2000) noSlopes) 2
     -- kind 6: 10,000/20,000/3,000, pitch 10°, and the load at position 12,000; a slope at 20°, at 15.0°; b2 = 3,000
     ∷ made 1000 (lowerRoof 20000 100) 2
     ∷ (loadAt recommendedFigures (siteOf 1000) (lowerRoof 20000 100) 2 12000 ∷ [])
@@ -116,12 +106,12 @@ stated =
 pub starred : computed ≡ stated
 unfolding computed stated
     arrangement count countIn cylindricalCount abuttingCount stretch stretchIn factorOf
-    monopitch pitched multiSpan multiSpanFrom multiSpanTo ownLoad valleyLoad slopeOf
+    monopitch pitched multiSpan multiSpanFrom multiSpanTo ownLoad valleyLoad
     cylindrical archDrift archEven peakLoad halfLoad loadedWidth firstFrom wideEnough
     abutting abuttingDrift wallLoad
     mu1 guarded mu2 mu3 driftLength muWind muSlide
     segments segment startOf readIn load loadAt greatest readingAt holds
     reading breakLoad roundedUp ceilDiv sum smaller larger heldTo
-    roofRefusal shapeFields spansFields steep steepValleys highRise
+    shapeRefusal slopeOf slopesFields steepValleys firstOf
     overhangForce overhangRule
 starred = refl

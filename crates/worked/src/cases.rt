@@ -7,11 +7,13 @@ use super::edges::OTHER_SIDE;
 use super::edges::PITCHES;
 use super::edges::SITE_COUNT;
 use super::edges::WIDTHS;
+use super::roofs::put_slope;
 use super::roofs::slope;
 use super::tally::Tally;
 use figures::Roof;
+use figures::SLOPE_NUMBERS;
 use figures::Site;
-use figures::Span;
+use figures::Slope;
 
 // The codes of document 01, and some that no roof has.
 const CODES: [u8; 12] = [0, 1, 2, 3, 4, 10, 11, 12, 13, 14, 21, 255];
@@ -46,22 +48,15 @@ fn pitched_case(i: usize) -> Roof
     super::roofs::pitched(left, right, bit(i / 10), bit(i / 20))
 }
 
-// A span of a case: odd cases have the steeper table to the left of the ridge.
-fn span_case(i: usize, k: usize) -> Span
-    requires { ⌜ (i < 1000) × (k < 16) ⌝ }
+// Slope j of a case, a slope of span j/2: odd cases have the steeper table to the left of the ridge.
+fn slope_case(i: usize, j: usize) -> Slope
+    requires { ⌜ (i < 1000) × (j < 32) ⌝ }
 {
-    let one = slope(ONE_SIDE[(i + 3 * k) % 8], width(i + k));
-    let other = slope(OTHER_SIDE[(2 * i + k) % 7], width(3 * i + 5 * k));
-    if i % 2 == 0 {
-        Span {
-            left: one,
-            right: other,
-        }
+    let k = j / 2;
+    if (i + j) % 2 == 0 {
+        slope(ONE_SIDE[(i + 3 * k) % 8], width(i + k))
     } else {
-        Span {
-            left: other,
-            right: one,
-        }
+        slope(OTHER_SIDE[(2 * i + k) % 7], width(3 * i + 5 * k))
     }
 }
 
@@ -70,19 +65,16 @@ fn multi_span_case(i: usize) -> Roof
     requires { ⌜ i < 1000 ⌝ }
 {
     let count = 2 + i % 15;
-    let mut spans = [span_case(i, 0); 16];
-    let mut k = 0;
-    while k < 16 {
-        spans[k] = span_case(i, k);
-        k += 1;
+    let mut slopes = [0u32; SLOPE_NUMBERS];
+    let mut j = 0;
+    while j < 32 {
+        put_slope(&mut slopes, j, slope_case(i, j));
+        j += 1;
     }
-    let mut first = spans[0];
-    first.left = slope(pitch(i), width(i));
-    spans[0] = first;
-    let mut last = spans[count - 1];
-    last.right = slope(pitch(7 * i), width(i + 1));
-    spans[count - 1] = last;
-    super::roofs::multi_span(count as u32, spans)
+    put_slope(&mut slopes, 0, slope(pitch(i), width(i)));
+    let last = slope(pitch(7 * i), width(i + 1));
+    put_slope(&mut slopes, 2 * count - 1, last);
+    super::roofs::multi_span(count as u32, slopes)
 }
 
 // Kind 5.

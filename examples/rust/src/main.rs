@@ -18,6 +18,8 @@ const SLICE: usize = 128;
 const MARK_BYTE: u8 = 0xA5;
 const MARK: u32 = u32::from_ne_bytes([MARK_BYTE; 4]);
 const CODES: [u8; 6] = [1, 2, 3, 11, 12, 13];
+/// No sheet has such an item.
+const MISSING: [usize; 6] = [255, 256, 65_534, 65_535, 65_536, usize::MAX];
 
 /// A sheet, and the checks on what the calls answer about it.
 struct Caller {
@@ -145,6 +147,13 @@ impl Caller {
         self.check(same, "a force is refused otherwise", item);
     }
 
+    /// An index that the sheet has no item for is refused by 12.
+    fn ask_missing(&mut self, item: usize) {
+        let answer = snow::load(&self.sheet, item, 1, 0);
+        println!("INDEX {item}: {}", answer.with_unit("N/m2"));
+        self.check_refused(item, Answer::refused(12, item));
+    }
+
     /// Prints the listing; the count of its lines. One byte of room too little alters nothing.
     fn list(&mut self) -> io::Result<usize> {
         let mut text = vec![MARK_BYTE; snow::LIST_ROOM];
@@ -165,7 +174,10 @@ impl Caller {
             for item in 1..count {
                 lines += self.ask_roof(item);
             }
-            self.check_refused(count, Answer::refused(12, count));
+            self.ask_missing(count);
+            for item in MISSING {
+                self.ask_missing(item);
+            }
         } else {
             self.check_refused(1, verdict);
         }

@@ -13,13 +13,13 @@ pub enum Answer {
     Value(u32),
     /// There is no such force.
     None,
-    /// Why there is no answer, and at which item; an item above 255 shows as 255.
+    /// Why there is no answer, and at which item; an index above 65,535 shows as 65,535.
     Refused { number: u32, item: u32 },
 }
 
 impl Answer {
     pub fn refused(number: u32, item: usize) -> Self {
-        let item = item.min(255) as u32;
+        let item = item.min(65_535) as u32;
         Self::Refused { number, item }
     }
 
@@ -47,8 +47,8 @@ impl From<u32> for Answer {
             NONE => Self::None,
             0..REFUSED => Self::Value(answer),
             _ => Self::Refused {
-                number: (answer - REFUSED) / 256,
-                item: (answer - REFUSED) % 256,
+                number: (answer - REFUSED) / 65_536,
+                item: (answer - REFUSED) % 65_536,
             },
         }
     }

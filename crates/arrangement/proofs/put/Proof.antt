@@ -1,5 +1,5 @@
-use Rattle.arrangement.proofs.Writing.{four}
 use lib.ListN.{length-set}
+use Rattle.arrangement.proofs.Writing.{four}
 use native.Mathlib.Omega.{arith}
 use borrow.Author.Needs.{needs}
 use Rattle.arrangement.proofs.put.Statement.{statement}

@@ -1,50 +1,64 @@
-use Rattle.reading.proofs.Stations.{one-more, next-start}
-use Rattle.standard.specs.Stretch.{startOf, greatest}
-use Rattle.standard.specs.Arrangements.{stretchIn}
-use Prim.Native.Nat.{_≤_, _-_, _*_}
+use native.Mathlib.Numerals.{add-one}
 use mathlib.Core.Path.{_≡_, refl}
+use Prim.Native.Nat.{_≤_, _-_}
+use Rattle.standard.specs.Units.{largestLoad, largestPosition}
+use Rattle.standard.specs.Stretch.{startOf, greatest}
+use Rattle.standard.specs.Arrangements.{stretch}
+use Rattle.figures.specs.RoofRules.{roofOf}
+use Rattle.segments.proofs.Starts.{next-start, start-most}
+use Rattle.reading.proofs.Stations.{one-more}
 use native.Mathlib.Omega.{arith}
+use borrow.Author.Needs.{needs}
 use Rattle.reading.proofs.greatest_reading.Statement.{statement}
 use Rattle.reading.proofs.greatest_reading.Tie as tie
 
 abbrev Inv-loop : tie.InvT-loop
-Inv-loop national roof code factor sk n station load₀ start₀ i₀ load start i = (i ≤ n)
-    × (load ≡ greatest (stretchIn national (roof .shape) (roof .spans) factor sk code) station i)
-    × (load ≤ 14400000)
-    × (start ≡ startOf (stretchIn national (roof .shape) (roof .spans) factor sk code) i)
-    × (start ≤ 400000 * i)
+Inv-loop national site shape slopes code n station load₀ start₀ i₀ load start i = (i ≤ n)
+    × (load ≡ greatest (stretch national site (roofOf shape slopes) code) station i)
+    × (load ≤ largestLoad)
+    × (start ≡ startOf (stretch national site (roofOf shape slopes) code) i)
 
 abbrev μ-loop : tie.MeasureT-loop
-μ-loop national roof code factor sk n station load₀ start₀ i₀ load start i = n - i
+μ-loop national site shape slopes code n station load₀ start₀ i₀ load start i = n - i
 
 loop-holds : tie.Need-loop-holds Inv-loop μ-loop
 unfolding startOf greatest
-loop-holds c = (omega arith, refl, omega arith, refl, omega arith)
+loop-holds c = (omega arith, refl, omega arith, refl)
 
 ramp-at-requires : tie.Need-ramp-at-requires Inv-loop μ-loop
-ramp-at-requires c κs = let p = c .before .before .pre in (p .0, p .1, p .2, omega (arith, p .3, c .loop-test .taken))
+ramp-at-requires c κs = let p = c .before .before .pre in (p .0, omega (arith, p .1, c .loop-test .taken))
+
+starts : (c : tie.At-loop Inv-loop μ-loop) → c .loop .start ≤ largestPosition
+starts c =
+    let p = c .before .pre in
+    let v = c .loop .inv in
+    start-most _ _ _ _ (p .0) (c .loop .i) _ (omega (arith, p .1, v .0)) (v .3)
 
 read-requires : tie.Need-read-requires Inv-loop μ-loop
-read-requires c κs = (c .ramp-at .ensures .1, omega (arith, c .before .before .loop .inv .4, c .before .before .before .pre .4))
-
-most-requires : tie.Need-most-requires Inv-loop μ-loop
-most-requires c κs = tt
+read-requires c κs = (c .ramp-at .ensures .1, starts (c .before .before))
 
 add-start : tie.Need-add-start Inv-loop μ-loop
-add-start c = omega (arith, c .before .before .before .ramp-at .ensures .1 .inside, c .before .before .before .ramp-at .ensures .1 .full, c .before .before .before .before .before .loop .inv .4, c .before .before .before .before .before .before .pre .4)
+add-start c =
+    let r = c .before .before .before in
+    let b = r .ramp-at .ensures .1 in
+    omega (arith, starts (r .before .before), b .inside, b .full)
 
 add-i : tie.Need-add-i Inv-loop μ-loop
-add-i c = omega arith
+add-i c = search needs
 
 loop-less : tie.Need-loop-less Inv-loop μ-loop
-loop-less c = omega arith
+loop-less c = search needs
 
 loop-again : tie.Need-loop-again Inv-loop μ-loop
-loop-again c = let l = c .before .before .before .before .before .loop .inv in
+loop-again c =
+    let l = c .before .before .before .before .before .loop in
     let r = c .before .before .before .ramp-at .ensures in
-    let v = c .before .before .read .ensures in
-    let m = c .before .most .ensures in
-    (omega arith, one-more _ _ _ _ _ (l .3) (r .0) _ _ _ (l .1) (v .0) m, omega (arith, m, l .2, v .1), next-start _ 0 _ _ _ (l .3) (r .0), omega (arith, l .4, r .1 .inside, r .1 .full))
+    let v = c .before .before .read .ensures in (
+      omega arith,
+      one-more _ _ _ _ _ (l .inv .3) (r .0) _ _ _ (l .inv .1) (v .0) (omega arith),
+      omega (arith, l .inv .2, v .1),
+      rw (add-one (l .i)) (next-start _ _ _ _ (l .inv .3) (r .0)),
+    )
 
 returns : tie.Need-returns Inv-loop μ-loop
 returns c = let l = c .before .loop in let e : l .i ≡ c .before .before .args .n = omega arith in (rw e at (l .inv .1), l .inv .2)
@@ -58,7 +72,7 @@ greatest-reading-spec =
     loop-holds
     ramp-at-requires
     read-requires
-    most-requires
+    (λ c κs. search needs)
     add-start
     add-i
     loop-less

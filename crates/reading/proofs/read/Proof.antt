@@ -1,5 +1,5 @@
-use Rattle.reading.proofs.Stations.{value-before, value-past, value-held}
 use mathlib.Core.Path.{_∙_}
+use Rattle.reading.proofs.Stations.{value-before, value-past, value-held}
 use native.Mathlib.Omega.{arith}
 use borrow.Author.Needs.{needs}
 use Rattle.reading.proofs.read.Statement.{statement}

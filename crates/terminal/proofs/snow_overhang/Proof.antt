@@ -1,6 +1,3 @@
-use mathlib.Core.Path.{ap, _∙_}
-use Rattle.terminal.proofs.Targets.{told}
-use Rattle.terminal.specs.Calls.{Target, forceCode, overhangCode}
 use borrow.Author.Needs.{needs}
 use Rattle.terminal.proofs.snow_overhang.Statement.{statement}
 use Rattle.terminal.proofs.snow_overhang.Tie as tie
@@ -8,44 +5,11 @@ use Rattle.terminal.proofs.snow_overhang.Tie as tie
 find-requires : tie.Need-find-requires
 find-requires c κs = search needs
 
-enum-told : tie.Need-enum-told
-enum-told c = search needs
-
-overhang-requires : tie.Need-overhang-requires
-overhang-requires c κs = search needs
-
-force-requires : tie.Need-force-requires
-force-requires c κs = search needs
-
-enum-told-2 : tie.Need-enum-told-2
-enum-told-2 c = search needs
-
-enum-known-finding : tie.Need-enum-known-finding
-enum-known-finding c = search needs
-
-refusal-requires : tie.Need-refusal-requires
-refusal-requires c κs = search needs
+overhang-at-requires : tie.Need-overhang-at-requires
+overhang-at-requires c κs = search needs
 
 returns : tie.Need-returns
-returns c = c .force .ensures ∙ (ap (forceCode (c .before .before .before .before .before .before .args .item)) (c .before .overhang .ensures) ∙ ap (λ (t : Target). overhangCode t (c .before .before .before .before .before .before .args .item) (c .before .before .before .before .before .before .args .slope)) (told (c .before .before .before .before .find .result) _ _ (c .before .before .enum-told .given .1) (c .before .before .before .before .find .ensures)))
-
-returns-2 : tie.Need-returns-2
-returns-2 c = ap (λ (t : Target). overhangCode t (c .before .before .before .before .args .item) (c .before .before .before .before .args .slope)) (told (c .before .before .find .result) _ _ (c .enum-told2 .given .1) (c .before .before .find .ensures))
-
-returns-3 : tie.Need-returns-3
-returns-3 c = c .refusal .ensures ∙ ap (λ (t : Target). overhangCode t (c .before .before .before .before .before .before .args .item) (c .before .before .before .before .before .before .args .slope)) (told (c .before .before .before .before .find .result) _ _ (c .before .before .finding .given .1) (c .before .before .before .before .find .ensures))
+returns c = rw (c .before .find .ensures) at (c .overhang-at .ensures)
 
 pub snow-overhang-spec : {M : Type 1} → statement M
-snow-overhang-spec =
-    tie.close
-    (tie.spec
-    find-requires
-    enum-told
-    overhang-requires
-    force-requires
-    enum-told-2
-    enum-known-finding
-    refusal-requires
-    returns
-    returns-2
-    returns-3)
+snow-overhang-spec = tie.close (tie.spec find-requires overhang-at-requires returns)

@@ -1,7 +1,8 @@
-use Rattle.loads.proofs.Products.{product, wind-small}
+use Rattle.loads.proofs.Products.{wind-small}
+use native.Mathlib.Nat.{mul-le-mul}
 use Rattle.loads.proofs.Products.{wind-most}
 use Rattle.loads.proofs.Parts.{part-is, part-without, both-are}
-use Rattle.standard.proofs.Handy.{wind-is, wind-positive, slide-is, slide-positive}
+use Rattle.standard.proofs.Numerators.{wind-is, wind-positive, slide-is, slide-positive}
 use Rattle.standard.specs.Coefficients.{muWind, muSlide}
 use Rattle.standard.specs.Abutting.{wallLoad, abuttingLength}
 use Prim.Native.Nat.{_*_, _≤_}
@@ -10,17 +11,17 @@ use borrow.Author.Needs.{needs}
 use Rattle.loads.proofs.breaks.wall_load.Statement.{statement}
 use Rattle.loads.proofs.breaks.wall_load.Tie as tie
 
-wind-fits : (c : tie.After-wind-over-depth) → c .wind-over-depth .result * c .before .args .factor ≤ 7200000 * (200 * c .before .args .h * 1000000)
-wind-fits c = wind-most _ (c .before .args .h) (c .before .args .factor) (c .before .args .sk) (c .before .pre .7) (c .wind-over-depth .ensures .1)
+wind-fits : (c : tie.After-wind-numerator) → c .wind-numerator .result * c .before .args .factor ≤ 7200000 * (200 * c .before .args .h * 1000000)
+wind-fits c = wind-most _ (c .before .args .h) (c .before .args .factor) (c .before .args .sk) (c .before .pre .7) (c .wind-numerator .ensures .1)
 
-add-wind-over-depth : tie.Need-add-wind-over-depth
-add-wind-over-depth c = search needs
+add-wind-numerator : tie.Need-add-wind-numerator
+add-wind-numerator c = search needs
 
-wind-over-depth-requires : tie.Need-wind-over-depth-requires
-wind-over-depth-requires c κs = search needs
+wind-numerator-requires : tie.Need-wind-numerator-requires
+wind-numerator-requires c κs = search needs
 
 mul-up : tie.Need-mul-up
-mul-up c = let p = c .before .pre in omega (arith, product (wind-small _ _ _ (p .2 .high) (p .7 .sk .high) (c .wind-over-depth .ensures .1)) (p .7 .factor))
+mul-up c = let p = c .before .pre in omega (arith, mul-le-mul (wind-small _ _ _ (p .2 .high) (p .7 .sk .high) (c .wind-numerator .ensures .1)) (p .7 .factor))
 
 mul-up-2 : tie.Need-mul-up-2
 mul-up-2 c = search needs
@@ -28,8 +29,8 @@ mul-up-2 c = search needs
 up-requires : tie.Need-up-requires
 up-requires c κs = (omega (arith, c .before .pre .2 .low), omega (arith, c .before .pre .2 .high), wind-fits c)
 
-slide-over-length-requires : tie.Need-slide-over-length-requires
-slide-over-length-requires c κs = search needs
+slide-numerator-requires : tie.Need-slide-numerator-requires
+slide-numerator-requires c κs = search needs
 
 mul-load-up : tie.Need-mul-load-up
 mul-load-up c = search needs
@@ -51,11 +52,11 @@ returns c = let s = c .before .before .before .before in
           (part-without (muWind (a .national) (a .b1) (a .b2) (a .h) (a .sk)) _ (200 * a .h) _ _ _
           (wind-positive (a .national) (a .b1) (a .b2) (a .h) (a .sk) (p .2 .low) (p .7 .sk .low))
           (omega (arith, p .2 .low))
-          (rw (c .before .before .before .wind-over-depth .ensures .0) (wind-is (a .national) (a .b1) (a .b2) (a .h) (a .sk) (p .2 .low) (p .7 .sk .low)))
+          (rw (c .before .before .before .wind-numerator .ensures .0) (wind-is (a .national) (a .b1) (a .b2) (a .h) (a .sk) (p .2 .low) (p .7 .sk .low)))
           (c .before .before .up .ensures .0))
           (rw (← p .5)
           (part-is (muSlide (a .slope) (a .guard) (a .ls)) _ (375 * a .ls) _ _ _ pos (omega (arith, p .6 .low))
-          (rw (c .before .slide-over-length .ensures .0) (slide-is (a .slope) (a .guard) (a .ls) (p .4)))
+          (rw (c .before .slide-numerator .ensures .0) (slide-is (a .slope) (a .guard) (a .ls) (p .4)))
           (c .load-up .ensures .0))),
       omega (arith, c .before .before .up .ensures .1, c .load-up .ensures .1),
     )
@@ -64,12 +65,12 @@ pub wall-load-spec : {M : Type 1} → statement M
 wall-load-spec =
     tie.close
     (tie.spec
-    add-wind-over-depth
-    wind-over-depth-requires
+    add-wind-numerator
+    wind-numerator-requires
     mul-up
     mul-up-2
     up-requires
-    slide-over-length-requires
+    slide-numerator-requires
     mul-load-up
     load-up-requires
     add-result

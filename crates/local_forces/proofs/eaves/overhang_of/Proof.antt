@@ -1,7 +1,6 @@
 use native.Mathlib.Nat.{mul-le-mul}
 use native.Mathlib.Omega.{arith}
 use Rattle.standard.proofs.Forces.{overhang-is}
-use mathlib.Core.Path.{sym, _∙_}
 use borrow.Author.Needs.{needs}
 use Rattle.local_forces.proofs.eaves.overhang_of.Statement.{statement}
 use Rattle.local_forces.proofs.eaves.overhang_of.Tie as tie
@@ -22,7 +21,7 @@ least-requires : tie.Need-least-requires
 least-requires c κs = search needs
 
 returns : tie.Need-returns
-returns c = (c .least .ensures ∙ rw (c .before .ceil-div .ensures) (sym (overhang-is (c .before .before .args .s))), omega arith)
+returns c = (omega (arith, overhang-is (c .before .before .args .s)), omega arith)
 
 pub overhang-of-spec : {M : Type 1} → statement M
 overhang-of-spec =

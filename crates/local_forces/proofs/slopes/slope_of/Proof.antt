@@ -1,5 +1,6 @@
 use Rattle.local_forces.proofs.Tests.{only-slope, no-other, left-slope, right-slope, no-third}
 use Rattle.standard.specs.Forces.{slopeAt}
+use native.Mathlib.Omega.{arith}
 use borrow.Author.Needs.{needs}
 use Rattle.local_forces.proofs.slopes.slope_of.Statement.{statement}
 use Rattle.local_forces.proofs.slopes.slope_of.Tie as tie
@@ -8,16 +9,16 @@ enum-known-shape : tie.Need-enum-known-shape
 enum-known-shape c = search needs
 
 returns : tie.Need-returns
-returns c = only-slope _ _ _ _ (c .before .before .shape .given .1) (c .if1 .taken)
+returns c = only-slope _ _ _ _ (c .before .before .shape .given .1) (omega arith)
 
 enum-known-shape-2 : tie.Need-enum-known-shape-2
 enum-known-shape-2 c = search needs
 
 returns-2 : tie.Need-returns-2
-returns-2 c = left-slope _ _ _ _ _ _ (c .before .before .shape2 .given .1) (c .if2 .taken)
+returns-2 c = left-slope _ _ _ _ _ _ (c .before .before .shape2 .given .1) (omega arith)
 
 returns-3 : tie.Need-returns-3
-returns-3 c = right-slope _ _ _ _ _ _ (c .before .before .before .shape2 .given .1) (c .if3 .taken)
+returns-3 c = right-slope _ _ _ _ _ _ (c .before .before .before .shape2 .given .1) (omega arith)
 
 enum-told : tie.Need-enum-told
 enum-told c = search needs

@@ -1,4 +1,4 @@
-use Rattle.segments.proofs.Rows.{abutting-past, abutting-rest}
+use Rattle.standard.proofs.Abutting.{abutting-past, abutting-rest}
 use Rattle.segments.proofs.Stretches.{made-is, made-in}
 use Rattle.standard.specs.Abutting.{abutting, abuttingDrift}
 use Prim.Native.Nat.{_<_}

@@ -1,4 +1,4 @@
-use Rattle.segments.proofs.Rows.{ArchRow, arch-row, arch-few}
+use Rattle.standard.proofs.Cylindrical.{ArchRow, arch-row, arch-few}
 use Rattle.standard.specs.Cylindrical.{cylindrical}
 use native.Mathlib.Omega.{arith}
 use borrow.Author.Needs.{needs}

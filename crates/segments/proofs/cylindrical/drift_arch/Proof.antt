@@ -1,4 +1,4 @@
-use Rattle.segments.proofs.Rows.{drift-bare, bare-ends}
+use Rattle.standard.proofs.Cylindrical.{drift-bare, bare-ends}
 use Rattle.segments.proofs.Stretches.{made-is, made-in, no-load}
 use Rattle.segments.specs.Ramps.{rampOf}
 use Rattle.standard.specs.Cylindrical.{archDrift, halfLoad, peakLoad}

@@ -1,4 +1,4 @@
-use Rattle.segments.proofs.Rows.{even-bare}
+use Rattle.standard.proofs.Cylindrical.{even-bare}
 use Rattle.segments.proofs.Stretches.{made-is, made-in, no-load}
 use Rattle.segments.specs.Ramps.{rampOf}
 use Rattle.standard.specs.Cylindrical.{archEven}

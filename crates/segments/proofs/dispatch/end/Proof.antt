@@ -1,5 +1,6 @@
-use Rattle.segments.proofs.Shapes.{multi-span-at}
 use Rattle.standard.specs.Arrangements.{endIn}
+use Rattle.segments.proofs.Shapes.{known-in}
+use native.Mathlib.Omega.{arith}
 use borrow.Author.Needs.{needs}
 use Rattle.segments.proofs.dispatch.end.Statement.{statement}
 use Rattle.segments.proofs.dispatch.end.Tie as tie
@@ -34,8 +35,11 @@ enum-known-shape-3 c = search needs
 cast-widths-of : tie.Need-cast-widths-of
 cast-widths-of c = search needs
 
+mul-widths-of : tie.Need-mul-widths-of
+mul-widths-of c = search needs
+
 widths-of-requires : tie.Need-widths-of-requires
-widths-of-requires c κs = multi-span-at _ _ (c .before .before .before .before .pre) _ (c .before .shape3 .given .1) .count .high
+widths-of-requires c κs = omega (arith, known-in (c .before .shape3 .given .1) _ (c .before .before .before .pre) .count .high)
 
 mul-result-3 : tie.Need-mul-result-3
 mul-result-3 c = search needs
@@ -111,6 +115,7 @@ end-spec =
     mul-result-2
     enum-known-shape-3
     cast-widths-of
+    mul-widths-of
     widths-of-requires
     mul-result-3
     enum-known-shape-4

@@ -45,13 +45,17 @@ index-at-requires-2 : tie.Need-index-at-requires-2 Inv-loop μ-loop
 index-at-requires-2 c κs = omega arith
 
 returns : tie.Need-returns Inv-loop μ-loop
-returns c = turn-refused _ _ _ _ 2 (c .before .before .before .loop-test .taken) (pair-early _ _ (omega arith)) (λ z. omega arith) ∙ sym (c .before .before .before .before .loop .inv .2)
+returns c =
+    let t = c .before .before .before in
+    turn-refused _ _ _ _ 2 (t .loop-test .taken) (pair-early _ _ (omega arith)) (λ z. omega arith) ∙ sym (t .before .loop .inv .2)
 
 add-earliest-2 : tie.Need-add-earliest-2 Inv-loop μ-loop
 add-earliest-2 c = omega arith
 
 returns-2 : tie.Need-returns-2 Inv-loop μ-loop
-returns-2 c = turn-refused _ _ _ _ 2 (c .before .before .before .before .loop-test .taken) (pair-past _ _ (omega arith) (omega arith)) (λ z. omega arith) ∙ sym (c .before .before .before .before .before .loop .inv .2)
+returns-2 c =
+    let t = c .before .before .before .before in
+    turn-refused _ _ _ _ 2 (t .loop-test .taken) (pair-past _ _ (omega arith) (omega arith)) (λ z. omega arith) ∙ sym (t .before .loop .inv .2)
 
 add-i : tie.Need-add-i Inv-loop μ-loop
 add-i c = omega arith
@@ -60,7 +64,10 @@ loop-less : tie.Need-loop-less Inv-loop μ-loop
 loop-less c = omega arith
 
 loop-again : tie.Need-loop-again Inv-loop μ-loop
-loop-again c = (omega arith, rw (add-one (c .before .before .before .before .before .loop .i)) (omega arith), c .before .before .before .before .before .loop .inv .2 ∙ turn-next _ _ _ _ (c .before .before .before .before .loop-test .taken) (pair-sound _ _ (omega arith) (omega arith)))
+loop-again c =
+    let t = c .before .before .before .before in
+    let l = t .before .loop in
+    (omega arith, rw (add-one (l .i)) (omega arith), l .inv .2 ∙ turn-next _ _ _ _ (t .loop-test .taken) (pair-sound _ _ (omega arith) (omega arith)))
 
 returns-3 : tie.Need-returns-3 Inv-loop μ-loop
 returns-3 c = turn-end _ _ _ _ (c .loop-test .left) ∙ sym (c .before .loop .inv .2)

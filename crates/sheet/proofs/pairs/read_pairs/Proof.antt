@@ -1,3 +1,5 @@
+use mathlib.Core.Bool.{true}
+use mathlib.Core.Path.{_≡_, _∙_}
 use Rattle.sheet.specs.Sheet.{fits}
 use Rattle.sheet.proofs.Turns.{fitting, too-short, outside, inside}
 use borrow.Author.Tests.{not-true, not-false}
@@ -7,6 +9,15 @@ use mathlib.Core.Path.{_∙_}
 use borrow.Author.Needs.{needs}
 use Rattle.sheet.proofs.pairs.read_pairs.Statement.{statement}
 use Rattle.sheet.proofs.pairs.read_pairs.Tie as tie
+
+sound :
+    (c : tie.Else2)
+    → fits (c .before .before .before .before .before .before .args .ceiling) (length (now (c .before .before .before .before .before .before .args .s)))
+    (c .before .before .before .index-at .result)
+    ≡ true
+sound c =
+    let a = c .before .before .before .before .before .before .args in
+    not-false (fits (a .ceiling) (length (now (a .s))) (c .before .before .before .index-at .result)) (c .if2 .left)
 
 returns : tie.Need-returns
 returns c = too-short _ _ (c .if1 .taken)
@@ -21,13 +32,18 @@ add-end : tie.Need-add-end
 add-end c = search needs
 
 returns-2 : tie.Need-returns-2
-returns-2 c = let a = c .before .before .before .before .before .before .args in let n = c .before .before .before .index-at in outside _ _ _ (n .ensures .0) (not-true (fits (a .ceiling) (length (now (a .s))) (n .result)) (c .if2 .taken))
+returns-2 c =
+    let n = c .before .before .before .index-at in
+    let a = c .before .before .before .before .before .before .args in
+    outside _ _ _ (n .ensures .0) (not-true (fits (a .ceiling) (length (now (a .s))) (n .result)) (c .if2 .taken))
 
 check-pairs-requires : tie.Need-check-pairs-requires
-check-pairs-requires c κs = let a = c .before .before .before .before .before .before .args in let n = c .before .before .before .index-at in (n .ensures .0, fitting _ _ _ (not-false (fits (a .ceiling) (length (now (a .s))) (n .result)) (c .if2 .left)) .pairs)
+check-pairs-requires c κs = (c .before .before .before .index-at .ensures .0, fitting _ _ _ (sound c) .pairs)
 
 returns-3 : tie.Need-returns-3
-returns-3 c = let a = c .before .before .before .before .before .before .before .args in let n = c .before .before .before .before .index-at in c .check-pairs .ensures ∙ inside _ _ _ (n .ensures .0) (not-false (fits (a .ceiling) (length (now (a .s))) (n .result)) (c .before .if2 .left))
+returns-3 c =
+    let n = c .before .before .before .before .index-at in
+    c .check-pairs .ensures ∙ inside _ _ _ (n .ensures .0) (sound (c .before))
 
 pub read-pairs-spec : {M : Type 1} → statement M
 read-pairs-spec =

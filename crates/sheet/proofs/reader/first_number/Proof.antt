@@ -1,7 +1,7 @@
-use Rattle.sheet.specs.declared.items.Item.{Item}
-use Rattle.sheet.specs.Items.{contentBy, ruleNumber}
-use Rattle.sheet.proofs.Places.{first-misplaced}
 use mathlib.Core.Path.{sym, ap, _∙_}
+use Rattle.items.specs.declared.decoding.Item.{Item}
+use Rattle.sheet.specs.Sheet.{ruleNumber, ruleOf}
+use Rattle.sheet.proofs.Places.{first-misplaced}
 use borrow.Author.Needs.{needs}
 use Rattle.sheet.proofs.reader.first_number.Statement.{statement}
 use Rattle.sheet.proofs.reader.first_number.Tie as tie
@@ -16,16 +16,18 @@ misplaced-number-requires : tie.Need-misplaced-number-requires
 misplaced-number-requires c κs = search needs
 
 returns : tie.Need-returns
-returns c = let d = c .before .before .decode in c .misplaced-number .ensures ∙ (first-misplaced (d .result .item) (d .result .spans) (c .before .match .keys2) ∙ ap (ruleNumber 0) (d .ensures))
+returns c =
+    let d = c .before .before .decode in
+    c .misplaced-number .ensures ∙ (first-misplaced (d .result .item) (d .result .slopes) (c .before .match .keys2) .0 ∙ ap (ruleOf 0) (d .ensures))
 
-site-verdict-requires : tie.Need-site-verdict-requires
-site-verdict-requires c κs = search needs
-
-site-number-requires : tie.Need-site-number-requires
-site-number-requires c κs = search needs
+site-refusal-requires : tie.Need-site-refusal-requires
+site-refusal-requires c κs = search needs
 
 returns-2 : tie.Need-returns-2
-returns-2 c = let d = c .before .before .before .before .before .decode in c .site-number .ensures ∙ (c .before .site-verdict .ensures ∙ (ap (λ (x : Item). ruleNumber 0 (contentBy x (d .result .spans))) (sym (c .before .before .before .item .given .1)) ∙ ap (ruleNumber 0) (d .ensures)))
+returns-2 c =
+    let d = c .before .before .before .before .decode in
+    c .site-refusal .ensures
+    ∙ (ap (λ (x : Item). ruleNumber 0 x (d .result .slopes)) (sym (c .before .before .item .given .1)) ∙ ap (ruleOf 0) (d .ensures))
 
 pub first-number-spec : {M : Type 1} → statement M
 first-number-spec =
@@ -35,6 +37,5 @@ first-number-spec =
     enum-known-item
     misplaced-number-requires
     returns
-    site-verdict-requires
-    site-number-requires
+    site-refusal-requires
     returns-2)

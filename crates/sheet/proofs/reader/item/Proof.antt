@@ -1,7 +1,9 @@
-use Rattle.sheet.proofs.Kept.{InSheet, located}
+use native.Mathlib.Nat.{add-sub-cancel-left, add-sub-cancel}
+use Prim.Native.Nat.{_+_, _≤_}
+use lib.ListN.{length}
+use Rattle.sheet.proofs.Kept.{located}
 use Rattle.sheet.specs.Sheet.{Answer, Place, accepted, terminals, place, partAt, locatedMeans}
 use denote.Ref.{now}
-use native.Mathlib.Nat.{add-sub-cancel-left}
 use native.Mathlib.Omega.{arith}
 use mathlib.Core.Path.{_≡_, sym, ap, _∙_}
 use borrow.Author.Needs.{needs}
@@ -14,8 +16,10 @@ found :
     ≡ accepted (record { start = c .before .offset .given .0 .0; bytes = c .before .offset .given .0 .1 .0 })
 found c = sym (c .before .before .before .locate .ensures) ∙ ap locatedMeans (c .before .offset .given .1)
 
-lies : (c : tie.After-known-told) → InSheet (now (c .before .before .before .before .before .args .s)) (record { start = c .before .offset .given .0 .0; bytes = c .before .offset .given .0 .1 .0 })
-lies c = located _ _ _ _ (found c)
+within :
+    (c : tie.After-known-told)
+    → c .before .offset .given .0 .0 + c .before .offset .given .0 .1 .0 ≤ length (now (c .before .before .before .before .before .args .s))
+within c = located _ _ _ _ (found c) .within
 
 locate-requires : tie.Need-locate-requires
 locate-requires c κs = search needs
@@ -24,7 +28,7 @@ enum-known-offset : tie.Need-enum-known-offset
 enum-known-offset c = search needs
 
 add-result : tie.Need-add-result
-add-result c = omega (arith, lies c .within)
+add-result c = omega (arith, within c)
 
 sub-result : tie.Need-sub-result
 sub-result c = search needs
@@ -33,7 +37,7 @@ part-result-start : tie.Need-part-result-start
 part-result-start c = search needs
 
 part-result-end : tie.Need-part-result-end
-part-result-end c = omega (arith, lies c .within)
+part-result-end c = omega (arith, within c)
 
 enum-told : tie.Need-enum-told
 enum-told c = search needs
@@ -42,10 +46,13 @@ slice-aggregate-result : tie.Need-slice-aggregate-result
 slice-aggregate-result c = search needs
 
 returns : tie.Need-returns
-returns c = rw (found (c .before), add-sub-cancel-left)
+returns c = simp (found (c .before), add-sub-cancel-left, add-sub-cancel)
 
 returns-2 : tie.Need-returns-2
-returns-2 c = ap (λ (p : Answer Place). partAt p (now (c .before .before .before .before .before .args .s))) (sym (ap locatedMeans (c .before .enum-told .given .1)) ∙ c .before .before .before .locate .ensures)
+returns-2 c =
+    let b = c .before in
+    ap (λ (p : Answer Place). partAt p (now (b .before .before .before .before .args .s)))
+    (sym (ap locatedMeans (b .enum-told .given .1)) ∙ b .before .before .locate .ensures)
 
 pub item-spec : {M : Type 1} → statement M
 item-spec =

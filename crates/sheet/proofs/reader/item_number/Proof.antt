@@ -1,4 +1,4 @@
-use Rattle.sheet.specs.Items.{content}
+use Rattle.items.specs.Items.{content}
 use denote.Ref.{now}
 use Rattle.sheet.proofs.Places.{later}
 use mathlib.Core.Path.{_∙_}
@@ -16,7 +16,10 @@ later-number-requires : tie.Need-later-number-requires
 later-number-requires c κs = search needs
 
 returns-2 : tie.Need-returns-2
-returns-2 c = let a = c .before .before .before .args in c .later-number .ensures ∙ later (a .index) (content (now (a .p))) (c .before .if1 .left)
+returns-2 c =
+    let a = c .before .before .before .args in
+    let d = content (now (a .p)) in
+    c .later-number .ensures ∙ later (a .index) (d .item) (d .slopes) (c .before .if1 .left)
 
 pub item-number-spec : {M : Type 1} → statement M
 item-number-spec =

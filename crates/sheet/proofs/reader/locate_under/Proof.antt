@@ -1,4 +1,5 @@
-use Rattle.sheet.proofs.Kept.{SheetKept, sheet-kept, place-refused, place-none, place-found}
+use Rattle.sheet.specs.Find.{ItemIn}
+use Rattle.sheet.proofs.Kept.{item-in, place-refused, place-none, place-found}
 use Rattle.sheet.specs.Sheet.{accepted, sheetVerdict, verdictMeans}
 use denote.Ref.{now}
 use native.Mathlib.Omega.{arith}
@@ -7,11 +8,16 @@ use borrow.Author.Needs.{needs}
 use Rattle.sheet.proofs.reader.locate_under.Statement.{statement}
 use Rattle.sheet.proofs.reader.locate_under.Tie as tie
 
-said : (c : tie.After-known-told2) → sheetVerdict (c .before .before .before .before .before .args .ceiling) (now (c .before .before .before .before .before .args .s)) ≡ accepted (c .before .n .given .0 .0)
+said :
+    (c : tie.After-known-told2)
+    → sheetVerdict (c .before .before .before .before .before .args .ceiling) (now (c .before .before .before .before .before .args .s))
+    ≡ accepted (c .before .n .given .0 .0)
 said c = sym (c .before .before .before .read .ensures) ∙ ap verdictMeans (c .before .n .given .1)
 
-facts : (c : tie.After-known-told2) → SheetKept (c .before .before .before .before .before .args .ceiling) (now (c .before .before .before .before .before .args .s)) (c .before .n .given .0 .0)
-facts c = sheet-kept _ _ _ (said c)
+here :
+    (c : tie.Else1)
+    → ItemIn (now (c .before .before .before .before .before .before .args .s)) (c .before .before .before .before .before .before .args .index)
+here c = item-in _ _ _ (said (c .before)) _ (omega arith)
 
 read-requires : tie.Need-read-requires
 read-requires c κs = search needs
@@ -23,34 +29,36 @@ enum-known-n : tie.Need-enum-known-n
 enum-known-n c = search needs
 
 returns : tie.Need-returns
-returns c = place-none _ _ _ _ (said (c .before)) (c .if1 .taken)
+returns c = place-none _ _ _ _ (said (c .before)) (omega arith)
 
 mul-index-at : tie.Need-mul-index-at
-mul-index-at c = omega (arith, facts (c .before) .pairs)
+mul-index-at c = omega (arith, here c .pair)
 
 add-index-at : tie.Need-add-index-at
-add-index-at c = omega (arith, facts (c .before) .pairs)
+add-index-at c = omega (arith, here c .pair)
 
 index-at-requires : tie.Need-index-at-requires
-index-at-requires c κs = omega (arith, facts (c .before) .pairs .fit)
+index-at-requires c κs = omega (arith, here c .pair)
 
 mul-index-at-2 : tie.Need-mul-index-at-2
-mul-index-at-2 c = omega (arith, facts (c .before .before) .pairs)
+mul-index-at-2 c = omega (arith, here (c .before) .pair)
 
 add-index-at-2 : tie.Need-add-index-at-2
-add-index-at-2 c = omega (arith, facts (c .before .before) .pairs)
+add-index-at-2 c = omega (arith, here (c .before) .pair)
 
 add-index-at-3 : tie.Need-add-index-at-3
-add-index-at-3 c = omega (arith, facts (c .before .before) .pairs)
+add-index-at-3 c = omega (arith, here (c .before) .pair)
 
 index-at-requires-2 : tie.Need-index-at-requires-2
-index-at-requires-2 c κs = omega (arith, facts (c .before .before) .pairs .fit)
+index-at-requires-2 c κs = omega (arith, here (c .before) .pair)
 
 returns-2 : tie.Need-returns-2
 returns-2 c = place-refused _ _ _ _ _ (sym (c .before .before .before .read .ensures) ∙ ap verdictMeans (c .before .number .given .1))
 
 returns-3 : tie.Need-returns-3
-returns-3 c = rw (c .before .index-at .ensures .0, c .index-at2 .ensures .0) (place-found _ _ _ _ (said (c .before .before .before)) (c .before .before .if1 .left))
+returns-3 c =
+    let b = c .before .before in
+    rw (c .before .index-at .ensures .0, c .index-at2 .ensures .0) (place-found _ _ _ _ (said (b .before)) (omega arith))
 
 pub locate-under-spec : {M : Type 1} → statement M
 locate-under-spec =

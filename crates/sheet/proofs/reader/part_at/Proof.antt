@@ -1,6 +1,5 @@
-use denote.Ref.{now}
+use native.Mathlib.Nat.{add-sub-cancel-left}
 use borrow.Author.Needs.{needs}
-use Rattle.sheet.proofs.Kept.{part-is}
 use Rattle.sheet.proofs.reader.part_at.Statement.{statement}
 use Rattle.sheet.proofs.reader.part_at.Tie as tie
 
@@ -38,9 +37,7 @@ part-result-end : tie.Need-part-result-end
 part-result-end c = search needs
 
 returns : tie.Need-returns
-returns c =
-    let z = c .before .before .before .before .args in
-    part-is (now (z .s)) (z .index) _ _ (c .before .before .index-at .ensures .0) (c .before .index-at2 .ensures .0)
+returns c = simp (c .before .before .index-at .ensures .0, c .before .index-at2 .ensures .0, add-sub-cancel-left)
 
 pub part-at-spec : {M : Type 1} → statement M
 part-at-spec =

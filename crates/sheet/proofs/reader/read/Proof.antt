@@ -21,7 +21,9 @@ returns : tie.Need-returns
 returns c = sheet-refused _ _ _ _ (sym (c .before .before .before .read-pairs .ensures) ∙ ap verdictMeans (c .before .number .given .1))
 
 returns-2 : tie.Need-returns-2
-returns-2 c = c .check-items .ensures ∙ sheet-items _ _ _ (sym (c .before .before .before .before .read-pairs .ensures) ∙ ap verdictMeans (c .before .before .n .given .1))
+returns-2 c =
+    let b = c .before .before in
+    c .check-items .ensures ∙ sheet-items _ _ _ (sym (b .before .before .read-pairs .ensures) ∙ ap verdictMeans (b .n .given .1))
 
 pub read-spec : {M : Type 1} → statement M
 read-spec =

@@ -19,7 +19,7 @@ add-result-2 c = search needs
 
 returns : tie.Need-returns
 unfolding refusalCode
-returns c = ap (λ (k : ℕ). 2147483648 + 256 * c .before .args .number + k) (c .shown .ensures)
+returns c = ap (λ (k : ℕ). 2147483648 + 65536 * c .before .args .number + k) (c .shown .ensures)
 
 pub refusal-spec : {M : Type 1} → statement M
 refusal-spec = tie.close (tie.spec mul-result add-result shown-requires add-result-2 returns)

@@ -40,7 +40,7 @@ same-length c = search needs
 returns : tie.Need-returns
 returns c =
     let l = c .before .before .before .before .list in
-    let s = c .before .before .before .before .before .before .before .before .before in
+    let s = c .before .before .before .before .before .before .before .before .before .before in
     let f = front (now (s .args .sheet)) (now (s .args .room)) _ _ (s .pre) (l .ensures .0) (l .ensures .1 .0) in
     (λ e. sym f ∙ c .same .ensures .0 e, λ e. c .same .ensures .1 (f ∙ e))
 

@@ -1,44 +1,35 @@
--- The spans before k are made.
+-- The slopes before j are made.
 use Prim.Native.Nat.{_≤_, _-_}
 use borrow.Author.Needs.{needs}
 use Rattle.worked.proofs.cases.multi_span_case.Statement.{statement}
 use Rattle.worked.proofs.cases.multi_span_case.Tie as tie
 
 abbrev Inv-loop : tie.InvT-loop
-Inv-loop i count spans₀ k₀ spans k = k ≤ 16
+Inv-loop i count slopes₀ j₀ slopes j = j ≤ 32
 
 abbrev μ-loop : tie.MeasureT-loop
-μ-loop i count spans₀ k₀ spans k = 16 - k
+μ-loop i count slopes₀ j₀ slopes j = 32 - j
 
 add-count : tie.Need-add-count Inv-loop μ-loop
 add-count c = search needs
 
-span-case-requires : tie.Need-span-case-requires Inv-loop μ-loop
-span-case-requires c κs = search needs
-
 loop-holds : tie.Need-loop-holds Inv-loop μ-loop
 loop-holds c = search needs
 
-span-case-requires-2 : tie.Need-span-case-requires-2 Inv-loop μ-loop
-span-case-requires-2 c κs = search needs
+slope-case-requires : tie.Need-slope-case-requires Inv-loop μ-loop
+slope-case-requires c κs = search needs
 
-mul-spans : tie.Need-mul-spans Inv-loop μ-loop
-mul-spans c = search needs
+put-slope-requires : tie.Need-put-slope-requires Inv-loop μ-loop
+put-slope-requires c κs = search needs
 
-array-set-from-spans : tie.Need-array-set-from-spans Inv-loop μ-loop
-array-set-from-spans c = search needs
-
-add-k : tie.Need-add-k Inv-loop μ-loop
-add-k c = search needs
+add-j : tie.Need-add-j Inv-loop μ-loop
+add-j c = search needs
 
 loop-less : tie.Need-loop-less Inv-loop μ-loop
 loop-less c = search needs
 
 loop-again : tie.Need-loop-again Inv-loop μ-loop
 loop-again c = search needs
-
-array-copy-out-first : tie.Need-array-copy-out-first Inv-loop μ-loop
-array-copy-out-first c = search needs
 
 pitch-requires : tie.Need-pitch-requires Inv-loop μ-loop
 pitch-requires c κs = search needs
@@ -49,17 +40,8 @@ width-requires c κs = search needs
 slope-requires : tie.Need-slope-requires Inv-loop μ-loop
 slope-requires c κs = search needs
 
-array-set-from-spans-2 : tie.Need-array-set-from-spans-2 Inv-loop μ-loop
-array-set-from-spans-2 c = search needs
-
-sub-last : tie.Need-sub-last Inv-loop μ-loop
-sub-last c = search needs
-
-mul-last : tie.Need-mul-last Inv-loop μ-loop
-mul-last c = search needs
-
-array-copy-out-last : tie.Need-array-copy-out-last Inv-loop μ-loop
-array-copy-out-last c = search needs
+put-slope-requires-2 : tie.Need-put-slope-requires-2 Inv-loop μ-loop
+put-slope-requires-2 c κs = search needs
 
 mul-pitch : tie.Need-mul-pitch Inv-loop μ-loop
 mul-pitch c = search needs
@@ -76,14 +58,14 @@ width-requires-2 c κs = search needs
 slope-requires-2 : tie.Need-slope-requires-2 Inv-loop μ-loop
 slope-requires-2 c κs = search needs
 
-sub-spans : tie.Need-sub-spans Inv-loop μ-loop
-sub-spans c = search needs
+mul-put-slope : tie.Need-mul-put-slope Inv-loop μ-loop
+mul-put-slope c = search needs
 
-mul-spans-2 : tie.Need-mul-spans-2 Inv-loop μ-loop
-mul-spans-2 c = search needs
+sub-put-slope : tie.Need-sub-put-slope Inv-loop μ-loop
+sub-put-slope c = search needs
 
-array-set-from-spans-3 : tie.Need-array-set-from-spans-3 Inv-loop μ-loop
-array-set-from-spans-3 c = search needs
+put-slope-requires-3 : tie.Need-put-slope-requires-3 Inv-loop μ-loop
+put-slope-requires-3 c κs = search needs
 
 cast-multi-span : tie.Need-cast-multi-span Inv-loop μ-loop
 cast-multi-span c = search needs
@@ -101,30 +83,24 @@ multi-span-case-spec =
     Inv-loop
     μ-loop
     add-count
-    span-case-requires
     loop-holds
-    span-case-requires-2
-    mul-spans
-    array-set-from-spans
-    add-k
+    slope-case-requires
+    put-slope-requires
+    add-j
     loop-less
     loop-again
-    array-copy-out-first
     pitch-requires
     width-requires
     slope-requires
-    array-set-from-spans-2
-    sub-last
-    mul-last
-    array-copy-out-last
+    put-slope-requires-2
     mul-pitch
     pitch-requires-2
     add-width
     width-requires-2
     slope-requires-2
-    sub-spans
-    mul-spans-2
-    array-set-from-spans-3
+    mul-put-slope
+    sub-put-slope
+    put-slope-requires-3
     cast-multi-span
     multi-span-requires
     returns)

@@ -1,0 +1,2 @@
+pub mod Forms
+pub mod Numbered

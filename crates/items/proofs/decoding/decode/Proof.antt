@@ -1,0 +1,97 @@
+use mathlib.Core.Path.{refl, _∙_}
+use Rattle.items.specs.Items.{byKind}
+use Rattle.items.proofs.Forms.{empty, of-kind, unknown}
+use borrow.Author.Needs.{needs}
+use Rattle.items.proofs.decoding.decode.Statement.{statement}
+use Rattle.items.proofs.decoding.decode.Tie as tie
+
+refused-requires : tie.Need-refused-requires
+refused-requires c κs = search needs
+
+returns : tie.Need-returns
+returns c = c .refused .ensures ∙ empty _ (c .before .if1 .taken)
+
+shared-slice-read-kind : tie.Need-shared-slice-read-kind
+shared-slice-read-kind c = search needs
+
+site-item-requires : tie.Need-site-item-requires
+site-item-requires c κs = search needs
+
+monopitch-item-requires : tie.Need-monopitch-item-requires
+monopitch-item-requires c κs = search needs
+
+pitched-item-requires : tie.Need-pitched-item-requires
+pitched-item-requires c κs = search needs
+
+multi-span-item-requires : tie.Need-multi-span-item-requires
+multi-span-item-requires c κs = search needs
+
+cylindrical-item-requires : tie.Need-cylindrical-item-requires
+cylindrical-item-requires c κs = search needs
+
+abutting-item-requires : tie.Need-abutting-item-requires
+abutting-item-requires c κs = search needs
+
+projection-item-requires : tie.Need-projection-item-requires
+projection-item-requires c κs = search needs
+
+refused-requires-2 : tie.Need-refused-requires-2
+refused-requires-2 c κs = search needs
+
+returns-2 : tie.Need-returns-2
+unfolding byKind
+returns-2 c = c .site-item .ensures ∙ of-kind _ (c .before .before .before .if1 .left) 1 (c .before .match .keys1)
+
+returns-3 : tie.Need-returns-3
+unfolding byKind
+returns-3 c = c .monopitch-item .ensures ∙ of-kind _ (c .before .before .before .if1 .left) 2 (c .before .match .keys2)
+
+returns-4 : tie.Need-returns-4
+unfolding byKind
+returns-4 c = c .pitched-item .ensures ∙ of-kind _ (c .before .before .before .if1 .left) 3 (c .before .match .keys3)
+
+returns-5 : tie.Need-returns-5
+unfolding byKind
+returns-5 c = c .multi-span-item .ensures ∙ of-kind _ (c .before .before .before .if1 .left) 4 (c .before .match .keys4)
+
+returns-6 : tie.Need-returns-6
+unfolding byKind
+returns-6 c = c .cylindrical-item .ensures ∙ of-kind _ (c .before .before .before .if1 .left) 5 (c .before .match .keys5)
+
+returns-7 : tie.Need-returns-7
+unfolding byKind
+returns-7 c = c .abutting-item .ensures ∙ of-kind _ (c .before .before .before .if1 .left) 6 (c .before .match .keys6)
+
+returns-8 : tie.Need-returns-8
+unfolding byKind
+returns-8 c = c .projection-item .ensures ∙ of-kind _ (c .before .before .before .if1 .left) 7 (c .before .match .keys7)
+
+returns-9 : tie.Need-returns-9
+returns-9 c =
+    let m = c .before .match .rest in
+    let u = unknown _ _ (m .0 .0 .0 .0 .0 .0 .1) (m .0 .0 .0 .0 .0 .1) (m .0 .0 .0 .0 .1) (m .0 .0 .0 .1) (m .0 .0 .1) (m .0 .1) (m .1) in
+    c .refused2 .ensures ∙ (u ∙ of-kind _ (c .before .before .before .if1 .left) _ refl)
+
+pub decode-spec : {M : Type 1} → statement M
+decode-spec =
+    tie.close
+    (tie.spec
+    refused-requires
+    returns
+    shared-slice-read-kind
+    site-item-requires
+    monopitch-item-requires
+    pitched-item-requires
+    multi-span-item-requires
+    cylindrical-item-requires
+    abutting-item-requires
+    projection-item-requires
+    refused-requires-2
+    returns-2
+    returns-3
+    returns-4
+    returns-5
+    returns-6
+    returns-7
+    returns-8
+    returns-9)

@@ -1,0 +1,28 @@
+use native.Mathlib.Nat.{mul-le-mul}
+use Rattle.standard.specs.Numerators.{slideNum}
+use borrow.Author.Tests.{le-leb, lt-leb}
+use native.Mathlib.Omega.{arith}
+use borrow.Author.Needs.{needs}
+use Rattle.loads.proofs.coefficients.slide_numerator.Statement.{statement}
+use Rattle.loads.proofs.coefficients.slide_numerator.Tie as tie
+
+returns : tie.Need-returns
+unfolding slideNum
+returns c = (rw (le-leb (c .before .before .args .slope .pitch) 150 (c .if1 .taken)), omega arith)
+
+slope-numerator-requires : tie.Need-slope-numerator-requires
+slope-numerator-requires c κs = search needs
+
+cast-result : tie.Need-cast-result
+cast-result c = search needs
+
+mul-result : tie.Need-mul-result
+mul-result c = omega (arith, mul-le-mul (c .before .slope-numerator .ensures .1) (c .before .before .before .before .pre .1))
+
+returns-2 : tie.Need-returns-2
+unfolding slideNum
+returns-2 c = (rw (c .before .slope-numerator .ensures .0, lt-leb (c .before .before .before .before .args .slope .pitch) 150 (c .before .before .if1 .left)), omega (arith, mul-le-mul (c .before .slope-numerator .ensures .1) (c .before .before .before .before .pre .1)))
+
+pub slide-numerator-spec : {M : Type 1} → statement M
+slide-numerator-spec =
+    tie.close (tie.spec returns slope-numerator-requires cast-result mul-result returns-2)

@@ -1,0 +1,21 @@
+use Rattle.sheet.proofs.Sound.{site-is}
+use borrow.Author.Needs.{needs}
+use Rattle.sheet.proofs.finding.site_in.Statement.{statement}
+use Rattle.sheet.proofs.finding.site_in.Tie as tie
+
+part-at-requires : tie.Need-part-at-requires
+part-at-requires c κs = search needs
+
+decode-requires : tie.Need-decode-requires
+decode-requires c κs = search needs
+
+site-of-requires : tie.Need-site-of-requires
+site-of-requires c κs = search needs
+
+returns : tie.Need-returns
+returns c =
+    let d = c .before in
+    site-is _ _ (d .decode .result) (d .decode .ensures) _ (d .before .part-at .ensures) (c .site-of .ensures) (d .before .before .before .pre .sound)
+
+pub site-in-spec : {M : Type 1} → statement M
+site-in-spec = tie.close (tie.spec part-at-requires decode-requires site-of-requires returns)

@@ -1,0 +1,129 @@
+// The one place where a sheet becomes figures: the sheet's site and an item's roof.
+ghost use mathlib.Core.Path.{_≡_};
+ghost use Prim.Native.Nat.{_<_};
+ghost use Rattle.figures.specs.RoofRules.{roofRefusal};
+ghost use Rattle.figures.specs.SiteRules.{siteRefusal};
+ghost use Rattle.sheet.specs.Find.{ItemIn, noSite, noRoof, siteBy, roofBy, sheetSite, sheetRoof, foundIn, found};
+use crate::reader::Located;
+use crate::reader::locate;
+use crate::reader::part_at;
+use figures::Roof;
+use figures::SLOPE_NUMBERS;
+use figures::Shape;
+use figures::Site;
+use items::Decoded;
+use items::Item;
+use items::decode;
+
+// What there is at an index: a roof, the site's item, which is no roof, or a refusal with its number and the item that it
+// names.
+pub enum Finding {
+    RoofFound,
+    NoRoof,
+    Refused(u8, usize),
+}
+
+// A finding with the figures: the sheet's site and the item's roof, and zeros where there is none.
+pub struct Found {
+    pub finding: Finding,
+    pub site: Site,
+    pub roof: Roof,
+}
+
+fn no_site() -> Site
+    ensures { λ r. ⌜ r ≡ noSite ⌝ }
+{
+    Site {
+        sk: 0,
+        ce: 0,
+        ct: 0,
+        cesl: 0,
+        situation: 0,
+        altitude: 0,
+    }
+}
+
+fn no_roof() -> Roof
+    ensures { λ r. ⌜ r ≡ noRoof ⌝ }
+{
+    Roof {
+        shape: Shape::MultiSpan { count: 0 },
+        slopes: [0; SLOPE_NUMBERS],
+    }
+}
+
+// The site that an item says.
+fn site_of(decoded: Decoded) -> Site
+    ensures { λ r. ⌜ r ≡ siteBy (decoded .item) ⌝ }
+{
+    let item = decoded.item;
+    let Item::SiteItem(site) = item else {
+        return no_site();
+    };
+    site
+}
+
+// The roof that an item says.
+fn roof_of(decoded: Decoded) -> Roof
+    ensures { λ r. ⌜ r ≡ roofBy (decoded .item) (decoded .slopes) ⌝ }
+{
+    let item = decoded.item;
+    let slopes = decoded.slopes;
+    let Item::RoofItem(shape) = item else {
+        return no_roof();
+    };
+    Roof {
+        shape: shape,
+        slopes: slopes,
+    }
+}
+
+// The site of a sheet whose first item is sound. For the crates above, which have the verdict.
+pub fn site_in(s: &[u8]) -> Site
+    requires { ⌜ ItemIn (now s) 0 ⌝ }
+    ensures { λ r. ⌜ (r ≡ sheetSite (now (s .entry))) × (siteRefusal r ≡ 0) ⌝ }
+{
+    site_of(decode(part_at(s, 0)))
+}
+
+// The roof of a later item that is sound. For the crates above, which have the verdict.
+pub fn roof_in(s: &[u8], i: usize) -> Roof
+    requires { ⌜ ItemIn (now s) i × (0 < i) ⌝ }
+    ensures { λ r. ⌜ (r ≡ sheetRoof (now (s .entry)) i) × (roofRefusal r ≡ 0) ⌝ }
+{
+    roof_of(decode(part_at(s, i)))
+}
+
+// What an accepted sheet has at an index of an item.
+fn found_in(s: &[u8], index: usize) -> Found
+    requires { ⌜ ItemIn (now s) 0 × ItemIn (now s) index ⌝ }
+    ensures { λ r. ⌜ r ≡ foundIn (now (s .entry)) index ⌝ }
+{
+    let site = site_in(s);
+    if index == 0 {
+        return Found {
+            finding: Finding::NoRoof,
+            site: site,
+            roof: no_roof(),
+        };
+    }
+    Found {
+        finding: Finding::RoofFound,
+        site: site,
+        roof: roof_in(s, index),
+    }
+}
+
+// What any bytes as a sheet have at an index: the sheet's site and the item's roof, or the first broken rule.
+pub fn find(s: &[u8], index: usize) -> Found
+    ensures { λ r. ⌜ r ≡ found (now (s .entry)) index ⌝ }
+{
+    match locate(s, index) {
+        Located::Nowhere(number, item) => Found {
+            finding: Finding::Refused(number, item),
+            site: no_site(),
+            roof: no_roof(),
+        },
+        Located::At(_, _) => found_in(s, index),
+    }
+}

@@ -1,0 +1,50 @@
+use mathlib.Core.Path.{ap, _∙_}
+use Rattle.terminal.specs.Calls.{answerCode}
+use borrow.Author.Needs.{needs}
+use Rattle.terminal.proofs.answers.load_at.Statement.{statement}
+use Rattle.terminal.proofs.answers.load_at.Tie as tie
+
+enum-told : tie.Need-enum-told
+enum-told c = search needs
+
+load-at-requires : tie.Need-load-at-requires
+load-at-requires c κs = search needs
+
+load-requires : tie.Need-load-requires
+load-requires c κs = search needs
+
+enum-told-2 : tie.Need-enum-told-2
+enum-told-2 c = search needs
+
+refusal-requires : tie.Need-refusal-requires
+refusal-requires c κs = search needs
+
+enum-known-finding : tie.Need-enum-known-finding
+enum-known-finding c = search needs
+
+refusal-requires-2 : tie.Need-refusal-requires-2
+refusal-requires-2 c κs = search needs
+
+returns : tie.Need-returns
+returns c = rw (c .before .before .enum-told .given .1) (c .load .ensures ∙ ap (answerCode (c .before .before .before .before .args .item)) (c .before .load-at .ensures .0))
+
+returns-2 : tie.Need-returns-2
+returns-2 c = rw (c .before .enum-told2 .given .1) (c .refusal .ensures)
+
+returns-3 : tie.Need-returns-3
+returns-3 c = rw (c .before .before .finding .given .1) (c .refusal2 .ensures)
+
+pub load-at-spec : {M : Type 1} → statement M
+load-at-spec =
+    tie.close
+    (tie.spec
+    enum-told
+    load-at-requires
+    load-requires
+    enum-told-2
+    refusal-requires
+    enum-known-finding
+    refusal-requires-2
+    returns
+    returns-2
+    returns-3)

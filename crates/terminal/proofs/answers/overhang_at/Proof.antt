@@ -1,0 +1,46 @@
+use mathlib.Core.Path.{ap, _∙_}
+use Rattle.terminal.specs.Calls.{forceCode}
+use borrow.Author.Needs.{needs}
+use Rattle.terminal.proofs.answers.overhang_at.Statement.{statement}
+use Rattle.terminal.proofs.answers.overhang_at.Tie as tie
+
+enum-told : tie.Need-enum-told
+enum-told c = search needs
+
+overhang-requires : tie.Need-overhang-requires
+overhang-requires c κs = search needs
+
+force-requires : tie.Need-force-requires
+force-requires c κs = search needs
+
+enum-told-2 : tie.Need-enum-told-2
+enum-told-2 c = search needs
+
+enum-known-finding : tie.Need-enum-known-finding
+enum-known-finding c = search needs
+
+refusal-requires : tie.Need-refusal-requires
+refusal-requires c κs = search needs
+
+returns : tie.Need-returns
+returns c = rw (c .before .before .enum-told .given .1) (c .force .ensures ∙ ap (forceCode (c .before .before .before .before .args .item)) (c .before .overhang .ensures .0))
+
+returns-2 : tie.Need-returns-2
+returns-2 c = search needs
+
+returns-3 : tie.Need-returns-3
+returns-3 c = rw (c .before .before .finding .given .1) (c .refusal .ensures)
+
+pub overhang-at-spec : {M : Type 1} → statement M
+overhang-at-spec =
+    tie.close
+    (tie.spec
+    enum-told
+    overhang-requires
+    force-requires
+    enum-told-2
+    enum-known-finding
+    refusal-requires
+    returns
+    returns-2
+    returns-3)

@@ -1,0 +1,73 @@
+// What the calls on an item answer, by what was found there.
+ghost use mathlib.Core.Path.{_≡_};
+ghost use lib.ListN.{length};
+ghost use Rattle.terminal.specs.Calls.{makeCode, sliceAfter, loadCode, overhangCode, guardCode};
+use crate::codes;
+use crate::codes::NONE;
+use crate::codes::refusal;
+use sheet::Finding;
+use sheet::Found;
+
+// The refusal of a code, by document 01's number.
+const NO_ARRANGEMENT: u8 = 13;
+
+// The count of segments of an arrangement, or a refusal.
+pub fn make_at(found: Found, item: usize, code: u8, out: &mut [u32]) -> u32
+    ensures { λ r. ⌜ r ≡ makeCode found item code (length (now (out .entry))) ⌝ }
+    ensures { λ _. ⌜ now (out .exit) ≡ sliceAfter found code (now (out .entry)) ⌝ }
+{
+    let finding = found.finding;
+    match finding {
+        Finding::RoofFound => {
+            let answer = arrangement::make(found.site, found.roof, code, out);
+            codes::made(answer, item)
+        }
+        Finding::NoRoof => refusal(NO_ARRANGEMENT, item),
+        Finding::Refused(number, at) => refusal(number, at),
+    }
+}
+
+// The load at a station, or a refusal.
+pub fn load_at(found: Found, item: usize, code: u8, station: u32) -> u32
+    ensures { λ r. ⌜ r ≡ loadCode found item code station ⌝ }
+{
+    let finding = found.finding;
+    match finding {
+        Finding::RoofFound => {
+            let answer = reading::load_at(found.site, found.roof, code, station);
+            codes::load(answer, item)
+        }
+        Finding::NoRoof => refusal(NO_ARRANGEMENT, item),
+        Finding::Refused(number, at) => refusal(number, at),
+    }
+}
+
+// The overhang at a slope, none, or a refusal.
+pub fn overhang_at(found: Found, item: usize, slope: u8) -> u32
+    ensures { λ r. ⌜ r ≡ overhangCode found item slope ⌝ }
+{
+    let finding = found.finding;
+    match finding {
+        Finding::RoofFound => {
+            let answer = local_forces::overhang(found.site, found.roof, slope);
+            codes::force(answer, item)
+        }
+        Finding::NoRoof => NONE,
+        Finding::Refused(number, at) => refusal(number, at),
+    }
+}
+
+// The force at the guard of a slope, none, or a refusal.
+pub fn guard_force_at(found: Found, item: usize, slope: u8) -> u32
+    ensures { λ r. ⌜ r ≡ guardCode found item slope ⌝ }
+{
+    let finding = found.finding;
+    match finding {
+        Finding::RoofFound => {
+            let answer = local_forces::guard_force(found.site, found.roof, slope);
+            codes::force(answer, item)
+        }
+        Finding::NoRoof => NONE,
+        Finding::Refused(number, at) => refusal(number, at),
+    }
+}
