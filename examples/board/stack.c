@@ -1,0 +1,141 @@
+/* Prints how much stack each call takes at most, over the sheets that are named as arguments and the heaviest sheet there is:
+   31 multi-span roofs of 16 spans in situation 1. Each call runs on a stack of its own that is painted before. */
+#include <pthread.h>
+#include <stdint.h>
+#include <stdio.h>
+#include <stdlib.h>
+#include <string.h>
+
+#include "wuqodlisa.h"
+
+enum { STACK = 1 << 20, PAINT = 0xA5, SHEET = 16384, CALLS = 7 };
+
+static const char *const names[CALLS] = {
+    "nothing", "snow_verdict", "snow_make", "snow_load", "snow_overhang", "snow_guard_force", "snow_list"};
+
+static unsigned char stack[STACK] __attribute__((aligned(4096)));
+static unsigned char sheet[SHEET];
+static size_t length;
+static uint8_t out[SNOW_LIST_ROOM];
+static uint32_t numbers[128];
+static size_t most[CALLS];
+
+struct job {
+    int call;
+    size_t item;
+    uint8_t code;
+    uint32_t station;
+};
+
+static void *run(void *argument)
+{
+    const struct job *job = argument;
+    switch (job->call) {
+    case 1: snow_verdict(sheet, length); break;
+    case 2: snow_make(sheet, length, job->item, job->code, numbers, 128); break;
+    case 3: snow_load(sheet, length, job->item, job->code, job->station); break;
+    case 4: snow_overhang(sheet, length, job->item, job->code); break;
+    case 5: snow_guard_force(sheet, length, job->item, job->code); break;
+    case 6: snow_list(sheet, length, out, sizeof out); break;
+    default: break;
+    }
+    return NULL;
+}
+
+/* Runs one job on the painted stack and notes how deep it went. */
+static void measure(struct job job)
+{
+    pthread_attr_t attributes;
+    pthread_t thread;
+    memset(stack, PAINT, sizeof stack);
+    if (pthread_attr_init(&attributes) != 0 || pthread_attr_setstack(&attributes, stack, sizeof stack) != 0
+        || pthread_create(&thread, &attributes, run, &job) != 0 || pthread_join(thread, NULL) != 0) {
+        fprintf(stderr, "no thread\n");
+        exit(1);
+    }
+    pthread_attr_destroy(&attributes);
+    size_t low = 0;
+    while (low < sizeof stack && stack[low] == PAINT)
+        low++;
+    if (most[job.call] < sizeof stack - low)
+        most[job.call] = sizeof stack - low;
+}
+
+static void measure_sheet(void)
+{
+    const uint8_t codes[] = {1, 2, 3, 11, 12, 13, 255};
+    uint32_t items = snow_verdict(sheet, length);
+    if (SNOW_IS_REFUSAL(items))
+        items = 1;
+    measure((struct job){0, 0, 0, 0});
+    measure((struct job){1, 0, 0, 0});
+    measure((struct job){6, 0, 0, 0});
+    for (size_t item = 0; item <= items; item++) {
+        for (size_t k = 0; k < sizeof codes; k++) {
+            measure((struct job){2, item, codes[k], 0});
+            measure((struct job){3, item, codes[k], 5000});
+        }
+        for (uint8_t slope = 0; slope <= 2; slope++) {
+            measure((struct job){4, item, slope, 0});
+            measure((struct job){5, item, slope, 0});
+        }
+    }
+}
+
+static void put(size_t at, uint32_t value, int bytes)
+{
+    for (int i = 0; i < bytes; i++)
+        sheet[at + (size_t)i] = (unsigned char)(value >> (8 * i));
+}
+
+static void heaviest(void)
+{
+    const size_t roof = 2 + 12 * 16;
+    size_t at = 2 + 4 * 32;
+    memset(sheet, 0, sizeof sheet);
+    put(0, 32, 2);
+    for (size_t i = 0; i < 32; i++) {
+        size_t bytes = i == 0 ? 14 : roof;
+        put(2 + 4 * i, (uint32_t)at, 2);
+        put(4 + 4 * i, (uint32_t)bytes, 2);
+        if (i == 0) {
+            sheet[at] = 1;
+            put(at + 1, 24999, 4);
+            put(at + 5, 119, 2);
+            put(at + 7, 99, 2);
+            put(at + 9, 299, 2);
+            sheet[at + 11] = 1;
+            put(at + 12, 1500, 2);
+        } else {
+            sheet[at] = 4;
+            sheet[at + 1] = 16;
+            for (size_t k = 0; k < 16; k++) {
+                put(at + 2 + 12 * k, 300 + (uint32_t)k, 2);
+                put(at + 4 + 12 * k, 250 + (uint32_t)k, 2);
+                put(at + 6 + 12 * k, 99999, 4);
+                put(at + 10 + 12 * k, 100000, 4);
+            }
+        }
+        at += bytes;
+    }
+    length = at;
+}
+
+int main(int count, char **names_of_sheets)
+{
+    for (int i = 1; i < count; i++) {
+        FILE *file = fopen(names_of_sheets[i], "rb");
+        if (file == NULL) {
+            perror(names_of_sheets[i]);
+            return 1;
+        }
+        length = fread(sheet, 1, sizeof sheet, file);
+        fclose(file);
+        measure_sheet();
+    }
+    heaviest();
+    measure_sheet();
+    for (int call = 1; call < CALLS; call++)
+        printf("%-16s %zu bytes of stack\n", names[call], most[call] - most[0]);
+    return 0;
+}
