@@ -99,14 +99,7 @@ fn list_codes(
 }
 
 // Writes the row of a force, and nothing where there is none.
-fn put_force(
-    out: &mut [u8],
-    at: usize,
-    item: u32,
-    code: u32,
-    slope: u8,
-    force: LocalForce,
-) -> usize
+fn put_force(out: &mut [u8], at: usize, item: u32, code: u32, slope: u8, force: LocalForce) -> usize
     requires { ⌜ at + 44 ≤ length (now out) ⌝ }
     ensures { λ r. ⌜ Wrote (now (out .entry)) at (forceRow item code slope (forceMeans force)) (now (out .exit)) r ⌝ }
     ensures { λ r. ⌜ r ≤ at + 44 ⌝ }
