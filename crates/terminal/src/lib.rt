@@ -1,15 +1,16 @@
 // Calls for the terminals' firmware, in C's terms. Each takes any bytes as a sheet; a slice is a pointer and its length.
-mod answers;
-mod codes;
-
 ghost use mathlib.Core.Path.{_≡_};
 ghost use Prim.Native.Nat.{_≤_};
 ghost use lib.ListN.{length};
 ghost use Rattle.listing.specs.Listing.{listed, bytesAfter};
 ghost use Rattle.sheet.specs.Find.{found};
 ghost use Rattle.sheet.specs.Sheet.{sheetVerdict, terminals};
-ghost use Rattle.terminal.specs.Calls.{verdictCode, makeCode, sliceAfter, loadCode, overhangCode, guardCode};
-use codes::refusal;
+ghost use Rattle.item_answers.specs.Calls.{verdictCode, makeCode, sliceAfter, loadCode, overhangCode, guardCode};
+use item_answers::guard_force_at;
+use item_answers::load_at;
+use item_answers::make_at;
+use item_answers::overhang_at;
+use item_answers::refusal;
 use sheet::Verdict;
 use sheet::find;
 
@@ -30,7 +31,7 @@ pub extern "C" fn snow_make(sheet: &[u8], item: usize, code: u8, out: &mut [u32]
     ensures { λ r. ⌜ r ≡ makeCode (found (now (sheet .entry)) item) item code (length (now (out .entry))) ⌝ }
     ensures { λ _. ⌜ now (out .exit) ≡ sliceAfter (found (now (sheet .entry)) item) code (now (out .entry)) ⌝ }
 {
-    answers::make_at(find(sheet, item), item, code, out)
+    make_at(find(sheet, item), item, code, out)
 }
 
 // The load at a station of an item's arrangement, or a refusal.
@@ -38,7 +39,7 @@ pub extern "C" fn snow_make(sheet: &[u8], item: usize, code: u8, out: &mut [u32]
 pub extern "C" fn snow_load(sheet: &[u8], item: usize, code: u8, station: u32) -> u32
     ensures { λ r. ⌜ r ≡ loadCode (found (now (sheet .entry)) item) item code station ⌝ }
 {
-    answers::load_at(find(sheet, item), item, code, station)
+    load_at(find(sheet, item), item, code, station)
 }
 
 // The overhang at a slope of an item, none, or a refusal.
@@ -46,7 +47,7 @@ pub extern "C" fn snow_load(sheet: &[u8], item: usize, code: u8, station: u32) -
 pub extern "C" fn snow_overhang(sheet: &[u8], item: usize, slope: u8) -> u32
     ensures { λ r. ⌜ r ≡ overhangCode (found (now (sheet .entry)) item) item slope ⌝ }
 {
-    answers::overhang_at(find(sheet, item), item, slope)
+    overhang_at(find(sheet, item), item, slope)
 }
 
 // The force at the guard of a slope of an item, none, or a refusal.
@@ -54,7 +55,7 @@ pub extern "C" fn snow_overhang(sheet: &[u8], item: usize, slope: u8) -> u32
 pub extern "C" fn snow_guard_force(sheet: &[u8], item: usize, slope: u8) -> u32
     ensures { λ r. ⌜ r ≡ guardCode (found (now (sheet .entry)) item) item slope ⌝ }
 {
-    answers::guard_force_at(find(sheet, item), item, slope)
+    guard_force_at(find(sheet, item), item, slope)
 }
 
 // The bytes of a sheet's listing, which is at the front of the lent bytes; 0, and nothing is written, where they are

@@ -2,7 +2,7 @@ use mathlib.Core.Path.{ap, sym, _∙_}
 use denote.Ref.{now}
 use Rattle.sheet.proofs.Kept.{sheet-kept}
 use Rattle.sheet.specs.Sheet.{terminals, verdictMeans}
-use Rattle.terminal.specs.Calls.{verdictCode}
+use Rattle.item_answers.specs.Calls.{verdictCode}
 use borrow.Author.Needs.{needs}
 use native.Mathlib.Omega.{arith}
 use Rattle.terminal.proofs.snow_verdict.Statement.{statement}

@@ -1,8 +1,8 @@
 use mathlib.Core.Path.{ap, _∙_}
-use Rattle.terminal.specs.Calls.{forceCode}
+use Rattle.item_answers.specs.Calls.{forceCode}
 use borrow.Author.Needs.{needs}
-use Rattle.terminal.proofs.answers.guard_force_at.Statement.{statement}
-use Rattle.terminal.proofs.answers.guard_force_at.Tie as tie
+use Rattle.item_answers.proofs.guard_force_at.Statement.{statement}
+use Rattle.item_answers.proofs.guard_force_at.Tie as tie
 
 enum-told : tie.Need-enum-told
 enum-told c = search needs

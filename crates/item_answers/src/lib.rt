@@ -1,10 +1,11 @@
-// What the calls on an item answer, by what was found there.
+// What the calls on an item of a sheet answer, as numbers of 32 bits, by what was found there.
+mod codes;
+
 ghost use mathlib.Core.Path.{_≡_};
 ghost use lib.ListN.{length};
-ghost use Rattle.terminal.specs.Calls.{makeCode, sliceAfter, loadCode, overhangCode, guardCode};
-use crate::codes;
-use crate::codes::NONE;
-use crate::codes::refusal;
+ghost use Rattle.item_answers.specs.Calls.{makeCode, sliceAfter, loadCode, overhangCode, guardCode};
+use codes::NONE;
+pub use codes::refusal;
 use sheet::Finding;
 use sheet::Found;
 

@@ -1,10 +1,10 @@
 use mathlib.Core.Path.{ap, sym, _∙_}
 use Rattle.local_forces.specs.Answers.{forceMeans}
 use Rattle.local_forces.specs.declared.answers.LocalForce.{LocalForce}
-use Rattle.terminal.specs.Calls.{forceCode}
+use Rattle.item_answers.specs.Calls.{forceCode}
 use borrow.Author.Needs.{needs}
-use Rattle.terminal.proofs.codes.force.Statement.{statement}
-use Rattle.terminal.proofs.codes.force.Tie as tie
+use Rattle.item_answers.proofs.codes.force.Statement.{statement}
+use Rattle.item_answers.proofs.codes.force.Tie as tie
 
 enum-known-answer : tie.Need-enum-known-answer
 enum-known-answer c = search needs

@@ -1,10 +1,10 @@
 use Rattle.standard.specs.Answers.{Answer}
-use Rattle.terminal.proofs.Slices.{slice-means}
+use Rattle.item_answers.proofs.Slices.{slice-means}
 use mathlib.Core.Path.{ap, _∙_}
-use Rattle.terminal.specs.Calls.{answerCode, sliceBy}
+use Rattle.item_answers.specs.Calls.{answerCode, sliceBy}
 use borrow.Author.Needs.{needs}
-use Rattle.terminal.proofs.answers.make_at.Statement.{statement}
-use Rattle.terminal.proofs.answers.make_at.Tie as tie
+use Rattle.item_answers.proofs.make_at.Statement.{statement}
+use Rattle.item_answers.proofs.make_at.Tie as tie
 
 enum-told : tie.Need-enum-told
 enum-told c = search needs

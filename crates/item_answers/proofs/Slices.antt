@@ -8,7 +8,7 @@ use Rattle.arrangement.specs.declared.Made.the-variants.{Segments, Refused}
 use Rattle.figures.specs.declared.site.Site.{Site}
 use Rattle.figures.specs.declared.roof.Roof.{Roof}
 use Rattle.standard.specs.Coefficients.{recommendedFigures}
-use Rattle.terminal.specs.Calls.{sliceBy}
+use Rattle.item_answers.specs.Calls.{sliceBy}
 
 pub slice-means :
     (m : Made) (s : Site) (r : Roof) (code : ℕ) (old : List ℕ) → contents recommendedFigures s r code m old ≡ sliceBy (madeMeans m) s r code old

@@ -1,10 +1,10 @@
 use mathlib.Core.Path.{ap, sym, _∙_}
 use Rattle.reading.specs.Reading.{readingMeans}
 use Rattle.reading.specs.declared.Reading.{Reading}
-use Rattle.terminal.specs.Calls.{answerCode}
+use Rattle.item_answers.specs.Calls.{answerCode}
 use borrow.Author.Needs.{needs}
-use Rattle.terminal.proofs.codes.load.Statement.{statement}
-use Rattle.terminal.proofs.codes.load.Tie as tie
+use Rattle.item_answers.proofs.codes.load.Statement.{statement}
+use Rattle.item_answers.proofs.codes.load.Tie as tie
 
 enum-known-answer : tie.Need-enum-known-answer
 enum-known-answer c = search needs

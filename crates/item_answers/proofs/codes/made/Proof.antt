@@ -1,11 +1,11 @@
 use mathlib.Core.Path.{ap, sym, _∙_}
 use Rattle.arrangement.specs.Arrangement.{madeMeans, madeCount}
 use Rattle.arrangement.specs.declared.Made.{Made}
-use Rattle.terminal.specs.Calls.{answerCode}
+use Rattle.item_answers.specs.Calls.{answerCode}
 use borrow.Author.Needs.{needs}
 use native.Mathlib.Omega.{arith}
-use Rattle.terminal.proofs.codes.made.Statement.{statement}
-use Rattle.terminal.proofs.codes.made.Tie as tie
+use Rattle.item_answers.proofs.codes.made.Statement.{statement}
+use Rattle.item_answers.proofs.codes.made.Tie as tie
 
 enum-known-answer : tie.Need-enum-known-answer
 enum-known-answer c = search needs

@@ -1,9 +1,9 @@
 use Prim.Native.Nat.{ℕ, _+_, _*_}
 use mathlib.Core.Path.{ap}
-use Rattle.terminal.specs.Calls.{refusalCode}
+use Rattle.item_answers.specs.Calls.{refusalCode}
 use borrow.Author.Needs.{needs}
-use Rattle.terminal.proofs.codes.refusal.Statement.{statement}
-use Rattle.terminal.proofs.codes.refusal.Tie as tie
+use Rattle.item_answers.proofs.codes.refusal.Statement.{statement}
+use Rattle.item_answers.proofs.codes.refusal.Tie as tie
 
 mul-result : tie.Need-mul-result
 mul-result c = search needs
