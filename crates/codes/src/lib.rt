@@ -82,7 +82,7 @@ pub fn factor(site: Site, code: u8) -> u64
 pub fn refusal(site: Site, roof: Roof, code: u8) -> u8
     ensures { λ r. ⌜ r ≡ codeRefusal site roof code ⌝ }
 {
-    let figures = figures::refusal(site, roof);
+    let figures = roof_rules::refusal(site, roof);
     let shape = roof.shape;
     let exists = has_code(kind_of(shape), site.situation, code);
     first(figures, refused_if(!exists, NO_ARRANGEMENT))

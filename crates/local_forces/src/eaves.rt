@@ -44,7 +44,7 @@ pub fn overhang(site: Site, roof: Roof, slope: u8) -> LocalForce
     ensures answer { λ r. ⌜ forceMeans r ≡ overhangAnswer site roof slope ⌝ }
     ensures distance { λ r. ⌜ overhangDistance (forceMeans r) site (slopeAt (roof .shape) slope) ⌝ }
 {
-    let number = figures::refusal(site, roof);
+    let number = roof_rules::refusal(site, roof);
     if number != 0 {
         return LocalForce::Refused(number);
     }

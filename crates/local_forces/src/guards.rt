@@ -50,7 +50,7 @@ pub fn guard_force(site: Site, roof: Roof, slope: u8) -> LocalForce
     ensures answer { λ r. ⌜ forceMeans r ≡ guardAnswer site roof slope ⌝ }
     ensures distance { λ r. ⌜ guardDistance (forceMeans r) site (slopeAt (roof .shape) slope) ⌝ }
 {
-    let number = figures::refusal(site, roof);
+    let number = roof_rules::refusal(site, roof);
     if number != 0 {
         return LocalForce::Refused(number);
     }

@@ -8,11 +8,11 @@ ghost use Rattle.sheet.specs.Sheet.{accepted, sheetVerdict, place, partA
 use crate::pairs::Ceiling;
 use crate::pairs::Verdict;
 use crate::pairs::read_pairs;
-use figures::shape_refusal;
-use figures::site_refusal;
 use items::Item;
 use items::decode;
 use items::index_at;
+use roof_rules::shape_refusal;
+use site_rules::site_refusal;
 
 // Refusals that the reader adds, by document 01's numbers.
 const SITE_PLACE: u8 = 5;

@@ -1,9 +1,0 @@
-use mathlib.Core.Path.{refl}
-use Rattle.figures.proofs.site.site_fields.Statement.{statement}
-use Rattle.figures.proofs.site.site_fields.Tie as tie
-
-returns : tie.Need-returns
-returns c = refl
-
-pub site-fields-spec : {M : Type 1} → statement M
-site-fields-spec = tie.close (tie.spec returns)

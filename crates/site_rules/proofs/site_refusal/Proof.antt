@@ -1,0 +1,30 @@
+use Rattle.figures.specs.SiteRules.{siteRefusal}
+use borrow.Author.Needs.{needs}
+use Rattle.site_rules.proofs.site_refusal.Statement.{statement}
+use Rattle.site_rules.proofs.site_refusal.Tie as tie
+
+site-fields-requires : tie.Need-site-fields-requires
+site-fields-requires c κs = search needs
+
+refused-if-requires : tie.Need-refused-if-requires
+refused-if-requires c κs = search needs
+
+refused-if-requires-2 : tie.Need-refused-if-requires-2
+refused-if-requires-2 c κs = search needs
+
+first-requires : tie.Need-first-requires
+first-requires c κs = search needs
+
+returns : tie.Need-returns
+unfolding siteRefusal
+returns c = cc
+
+pub site-refusal-spec : {M : Type 1} → statement M
+site-refusal-spec =
+    tie.close
+    (tie.spec
+    site-fields-requires
+    refused-if-requires
+    refused-if-requires-2
+    first-requires
+    returns)
