@@ -5,9 +5,9 @@ use lib.ListN.{length, drop}
 use Rattle.figures.specs.declared.site.Site.{Site}
 use Rattle.figures.specs.declared.roof.Roof.{Roof}
 use Rattle.sheet.specs.Sheet as sheets
-use Rattle.sheet.specs.declared.finding.Finding.{Finding}
-use Rattle.sheet.specs.declared.finding.Finding.the-variants.{RoofFound, NoRoof, Refused}
-use Rattle.sheet.specs.declared.finding.Found.{Found}
+use Rattle.sheet_figures.specs.declared.Finding.{Finding}
+use Rattle.sheet_figures.specs.declared.Finding.the-variants.{RoofFound, NoRoof, Refused}
+use Rattle.sheet_figures.specs.declared.Found.{Found}
 use Rattle.standard.specs.Answers.{Answer, value, refused, makeAnswer, loadAnswer}
 use Rattle.standard.specs.Arrangements.{stretch}
 use Rattle.standard.specs.Coefficients.{recommendedFigures}

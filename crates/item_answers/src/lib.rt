@@ -6,8 +6,8 @@ ghost use lib.ListN.{length};
 ghost use Rattle.item_answers.specs.Calls.{makeCode, sliceAfter, loadCode, overhangCode, guardCode};
 use codes::NONE;
 pub use codes::refusal;
-use sheet::Finding;
-use sheet::Found;
+use sheet_figures::Finding;
+use sheet_figures::Found;
 
 // The refusal of a code, by document 01's number.
 const NO_ARRANGEMENT: u8 = 13;

@@ -6,10 +6,10 @@ use native.Mathlib.Numerals.{add-one}
 use native.Mathlib.Omega.{arith}
 use Rattle.listing.specs.Listing.{itemRows, itemsRows}
 use Rattle.roof_rows.specs.Rows.{roofRows}
-use Rattle.sheet.specs.Find.{ItemIn, sheetSite, sheetRoof}
-use Rattle.sheet.specs.Sheet.{accepted, terminals, sheetVerdict}
+use Rattle.sheet_figures.specs.Find.{sheetSite, sheetRoof}
+use Rattle.sheet.specs.Sheet.{ItemIn, accepted, terminals, sheetVerdict}
 use Rattle.sheet.proofs.Kept.{sheet-kept, item-in}
-use Rattle.sheet.proofs.Sound.{site-sound, roof-sound}
+use Rattle.sheet_figures.proofs.Sound.{site-sound, roof-sound}
 use Rattle.standard.specs.Bounds.{FiguresIn}
 use Rattle.standard.specs.Coefficients.{recommendedFigures}
 use Rattle.standard.specs.declared.National.{National}

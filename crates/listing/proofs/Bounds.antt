@@ -11,7 +11,7 @@ use Rattle.listing.proofs.Accepted.{few-items, some-items, figures-at}
 use Rattle.listing.specs.Listing.{header}
 use Rattle.roof_rows.specs.Rows.{roofRows}
 use Rattle.listing.specs.Listing.{itemRows, itemsRows, listingBy, listing, listRoom, listed, bytesAfter}
-use Rattle.sheet.specs.Find.{sheetSite, sheetRoof}
+use Rattle.sheet_figures.specs.Find.{sheetSite, sheetRoof}
 use Rattle.sheet.specs.Sheet.{Answer, accepted, refused, terminals, sheetVerdict}
 use Rattle.standard.specs.Coefficients.{recommendedFigures}
 use Rattle.text.proofs.Writing.{short, in-place, room, wrote-as}

@@ -13,7 +13,7 @@ use Rattle.rounding.specs.Load.{breakLoad}
 use Rattle.rounding.specs.Ramp.{reading}
 use Rattle.rounding.specs.Up.{ceilDiv, roundedUp}
 use Rattle.items.specs.Items.{sized, siteItem, monopitchItem, byKind, content}
-use Rattle.sheet.specs.Find.{sheetSite, sheetRoof}
+use Rattle.sheet_figures.specs.Find.{sheetSite, sheetRoof}
 use Rattle.sheet.specs.Sheet.{pairNumber, itemNumber, inTurn, pairsVerdict, sheetVerdict}
 use Rattle.standard.specs.Arrangements.{factorOf, countIn, stretchIn, exists, count, stretch}
 use Rattle.standard.specs.Codes.{existsIn}

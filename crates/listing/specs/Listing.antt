@@ -5,7 +5,7 @@ use mathlib.Core.List.{List, [], _∷_, _++_}
 use lib.Dec.{ltb}
 use lib.ListN.{length, drop}
 use Rattle.roof_rows.specs.Rows.{roofRows}
-use Rattle.sheet.specs.Find.{sheetSite, sheetRoof}
+use Rattle.sheet_figures.specs.Find.{sheetSite, sheetRoof}
 use Rattle.sheet.specs.Sheet.{Answer, accepted, refused, terminals, sheetVerdict}
 use Rattle.standard.specs.Coefficients.{recommendedFigures}
 use Rattle.standard.specs.declared.National.{National}

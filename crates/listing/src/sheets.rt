@@ -8,8 +8,8 @@ ghost use Rattle.standard.specs.Coefficients.{recommendedFigures};
 ghost use Rattle.text.specs.Text.{Wrote};
 use roof_rows::NUMBERS;
 use roof_rows::list_roof;
-use sheet::roof_in;
-use sheet::site_in;
+use sheet_figures::roof_in;
+use sheet_figures::site_in;
 
 // Writes the rows of an accepted sheet: those of the items behind the first, which is the site.
 pub fn list_items(

@@ -11,9 +11,8 @@ use native.Mathlib.Nat.{eq-or-lt-of-le, eq-zero-or-pos}
 use native.Mathlib.Omega.{arith}
 use Rattle.figures.proofs.Laws.{both}
 use Rattle.items.specs.Items.{content}
-use Rattle.sheet.specs.Find.{ItemIn}
 use Rattle.sheet.specs.Sheet.{Answer, accepted, refused, Place, count, offset, size, earliest, part, fits, pairNumber, ruleOf, itemNumber, inTurn}
-use Rattle.sheet.specs.Sheet.{andThen, pairsVerdict, sheetVerdict, placeBy, place}
+use Rattle.sheet.specs.Sheet.{ItemIn, andThen, pairsVerdict, sheetVerdict, placeBy, place}
 use Rattle.sheet.specs.declared.pairs.Ceiling.{Ceiling}
 use Rattle.sheet.proofs.Turns.{Fitting, fitting}
 

@@ -7,10 +7,10 @@ use denote.Enum.Declared
 use native.Mathlib.Omega.{arith}
 use types.Run.{OneOf}
 use Rattle.items.proofs.decoding.Item as the-item
+use Rattle.items.specs.Figures.{noSite, noRoof, siteBy, roofBy}
 use Rattle.items.specs.declared.decoding.Item.{Item}
 use Rattle.items.specs.declared.decoding.Item.the-variants.{SiteItem, RoofItem, Malformed}
 use Rattle.sheet.specs.Sheet.{misplaced, ruleNumber}
-use Rattle.sheet.specs.Find.{noSite, noRoof, siteBy, roofBy}
 
 -- the variant of an item, counted from 0
 abbrev pub variant : Item → ℕ

@@ -1,7 +1,8 @@
 -- The sheet: its count, its pairs, the verdict on it, and its items. Refusals 1 to 5, and 12 for an index.
-use Prim.Native.Nat.{ℕ, zero, suc, _+_, _*_}
+use Prim.Native.Nat.{ℕ, zero, suc, _+_, _*_, _≤_}
 use mathlib.Core.Bool.{Bool, cond, _&&_}
 use mathlib.Core.List.{List, []}
+use mathlib.Core.Path.{_≡_}
 use lib.Dec.{leb, ltb, eqb}
 use lib.ListN.{length, take, drop}
 use Rattle.figures.specs.Ranges.{within}
@@ -76,6 +77,12 @@ misplaced (RoofItem shape) = 5
 -- "then item by item empty (4), 3, 4, 5, and the value rules": the first rule that item i breaks
 unfoldable pub itemNumber : List ℕ → ℕ → ℕ
 itemNumber s i = ruleOf i (content (part s i))
+
+-- an item that lies in the sheet, its pair too, and breaks no rule
+pub record ItemIn (s : List ℕ) (i : ℕ) : Type 0 where
+  pub pair : 2 + 4 * i + 4 ≤ length s
+  pub within : offset s i + size s i ≤ length s
+  pub sound : itemNumber s i ≡ 0
 
 -- k items in turn from i on, of which the first whose number is not 0 is named; n where there is none
 unfoldable pub inTurn : (ℕ → ℕ) → ℕ → ℕ → ℕ → Answer ℕ

@@ -3,7 +3,7 @@ ghost use mathlib.Core.Path.{_≡_};
 ghost use Prim.Native.Nat.{_≤_};
 ghost use lib.ListN.{length};
 ghost use Rattle.listing.specs.Listing.{listed, bytesAfter};
-ghost use Rattle.sheet.specs.Find.{found};
+ghost use Rattle.sheet_figures.specs.Find.{found};
 ghost use Rattle.sheet.specs.Sheet.{sheetVerdict, terminals};
 ghost use Rattle.item_answers.specs.Calls.{verdictCode, makeCode, sliceAfter, loadCode, overhangCode, guardCode};
 use item_answers::guard_force_at;
@@ -12,7 +12,7 @@ use item_answers::make_at;
 use item_answers::overhang_at;
 use item_answers::refusal;
 use sheet::Verdict;
-use sheet::find;
+use sheet_figures::find;
 
 // The count of a sheet's items, or a refusal.
 #[no_mangle]

@@ -1,6 +1,5 @@
-use Rattle.sheet.specs.Find.{ItemIn}
 use Rattle.sheet.proofs.Kept.{item-in, place-refused, place-none, place-found}
-use Rattle.sheet.specs.Sheet.{accepted, sheetVerdict, verdictMeans}
+use Rattle.sheet.specs.Sheet.{ItemIn, accepted, sheetVerdict, verdictMeans}
 use denote.Ref.{now}
 use native.Mathlib.Omega.{arith}
 use mathlib.Core.Path.{_≡_, sym, ap, _∙_}

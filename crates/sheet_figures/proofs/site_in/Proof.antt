@@ -1,7 +1,7 @@
-use Rattle.sheet.proofs.Sound.{site-is}
+use Rattle.sheet_figures.proofs.Sound.{site-is}
 use borrow.Author.Needs.{needs}
-use Rattle.sheet.proofs.finding.site_in.Statement.{statement}
-use Rattle.sheet.proofs.finding.site_in.Tie as tie
+use Rattle.sheet_figures.proofs.site_in.Statement.{statement}
+use Rattle.sheet_figures.proofs.site_in.Tie as tie
 
 part-at-requires : tie.Need-part-at-requires
 part-at-requires c κs = search needs

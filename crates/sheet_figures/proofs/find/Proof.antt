@@ -1,11 +1,11 @@
 use mathlib.Core.Path.{_≡_, sym, ap, _∙_}
 use denote.Ref.{now}
 use Rattle.sheet.specs.Sheet.{accepted, terminals, place, locatedMeans}
-use Rattle.sheet.proofs.Sound.{found-placed, found-refused}
+use Rattle.sheet_figures.proofs.Sound.{found-placed, found-refused}
 use Rattle.sheet.proofs.Kept.{located-in}
 use borrow.Author.Needs.{needs}
-use Rattle.sheet.proofs.finding.find.Statement.{statement}
-use Rattle.sheet.proofs.finding.find.Tie as tie
+use Rattle.sheet_figures.proofs.find.Statement.{statement}
+use Rattle.sheet_figures.proofs.find.Tie as tie
 
 placed :
     (c : tie.After-enum-told)

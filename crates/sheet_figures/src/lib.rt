@@ -3,10 +3,9 @@ ghost use mathlib.Core.Path.{_≡_};
 ghost use Prim.Native.Nat.{_<_};
 ghost use Rattle.figures.specs.RoofRules.{roofRefusal};
 ghost use Rattle.figures.specs.SiteRules.{siteRefusal};
-ghost use Rattle.sheet.specs.Find.{ItemIn, noSite, noRoof, siteBy, roofBy, sheetSite, sheetRoof, foundIn, found};
-use crate::reader::Located;
-use crate::reader::locate;
-use crate::reader::part_at;
+ghost use Rattle.items.specs.Figures.{noSite, noRoof, siteBy, roofBy};
+ghost use Rattle.sheet.specs.Sheet.{ItemIn};
+ghost use Rattle.sheet_figures.specs.Find.{sheetSite, sheetRoof, foundIn, found};
 use figures::Roof;
 use figures::SLOPE_NUMBERS;
 use figures::Shape;
@@ -14,6 +13,9 @@ use figures::Site;
 use items::Decoded;
 use items::Item;
 use items::decode;
+use sheet::Located;
+use sheet::locate;
+use sheet::part_at;
 
 // What there is at an index: a roof, the site's item, which is no roof, or a refusal with its number and the item that it
 // names.

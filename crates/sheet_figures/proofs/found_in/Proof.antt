@@ -1,8 +1,8 @@
 use native.Mathlib.Omega.{arith}
-use Rattle.sheet.proofs.Sound.{first-found, later-found}
+use Rattle.sheet_figures.proofs.Sound.{first-found, later-found}
 use borrow.Author.Needs.{needs}
-use Rattle.sheet.proofs.finding.found_in.Statement.{statement}
-use Rattle.sheet.proofs.finding.found_in.Tie as tie
+use Rattle.sheet_figures.proofs.found_in.Statement.{statement}
+use Rattle.sheet_figures.proofs.found_in.Tie as tie
 
 site-in-requires : tie.Need-site-in-requires
 site-in-requires c κs = search needs

@@ -1,10 +1,10 @@
 use mathlib.Core.Path.{sym, ap, _∙_}
 use Rattle.items.specs.declared.decoding.Item.{Item}
-use Rattle.sheet.specs.Find.{roofBy}
+use Rattle.items.specs.Figures.{roofBy}
 use Rattle.sheet.proofs.Places.{later-misplaced}
 use borrow.Author.Needs.{needs}
-use Rattle.sheet.proofs.finding.roof_of.Statement.{statement}
-use Rattle.sheet.proofs.finding.roof_of.Tie as tie
+use Rattle.sheet_figures.proofs.roof_of.Statement.{statement}
+use Rattle.sheet_figures.proofs.roof_of.Tie as tie
 
 enum-known-item : tie.Need-enum-known-item
 enum-known-item c = search needs

@@ -1,8 +1,8 @@
 use native.Mathlib.Omega.{arith}
-use Rattle.sheet.proofs.Sound.{roof-is}
+use Rattle.sheet_figures.proofs.Sound.{roof-is}
 use borrow.Author.Needs.{needs}
-use Rattle.sheet.proofs.finding.roof_in.Statement.{statement}
-use Rattle.sheet.proofs.finding.roof_in.Tie as tie
+use Rattle.sheet_figures.proofs.roof_in.Statement.{statement}
+use Rattle.sheet_figures.proofs.roof_in.Tie as tie
 
 part-at-requires : tie.Need-part-at-requires
 part-at-requires c κs = (omega (arith, c .before .pre .0 .pair), omega (arith, c .before .pre .0 .within))

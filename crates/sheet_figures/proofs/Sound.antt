@@ -8,14 +8,15 @@ use Rattle.figures.specs.SiteRules.{siteRefusal}
 use Rattle.figures.specs.declared.site.Site.{Site}
 use Rattle.figures.specs.declared.roof.Roof.{Roof}
 use Rattle.items.proofs.Numbered.{Numbered, numbered}
+use Rattle.items.specs.Figures.{noSite, noRoof, siteBy, roofBy}
 use Rattle.items.specs.Items.{content}
 use Rattle.items.specs.declared.decoding.Item.{Item}
 use Rattle.items.specs.declared.decoding.Item.the-variants.{SiteItem, RoofItem, Malformed}
 use Rattle.items.specs.declared.decoding.Decoded.{Decoded}
 use Rattle.sheet.proofs.Kept.{located-in}
-use Rattle.sheet.specs.Find.{noSite, noRoof, siteBy, roofBy, sheetSite, sheetRoof, foundIn, foundBy, found}
+use Rattle.sheet_figures.specs.Find.{sheetSite, sheetRoof, foundIn, foundBy, found}
 use Rattle.sheet.specs.Sheet.{Answer, accepted, refused, Place, terminals, part, ruleNumber, itemNumber, place}
-use Rattle.sheet.specs.declared.finding.Finding.the-variants.{RoofFound, NoRoof, Refused}
+use Rattle.sheet_figures.specs.declared.Finding.the-variants.{RoofFound, NoRoof, Refused}
 
 site-by : (x : Item) (l : List ℕ) → Numbered x → ruleNumber 0 x l ≡ 0 → siteRefusal (siteBy x) ≡ 0
 site-by (SiteItem site) l n e = e

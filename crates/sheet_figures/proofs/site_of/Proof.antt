@@ -1,9 +1,9 @@
 use mathlib.Core.Path.{sym, ap, _∙_}
-use Rattle.sheet.specs.Find.{siteBy}
+use Rattle.items.specs.Figures.{siteBy}
 use Rattle.sheet.proofs.Places.{first-misplaced}
 use borrow.Author.Needs.{needs}
-use Rattle.sheet.proofs.finding.site_of.Statement.{statement}
-use Rattle.sheet.proofs.finding.site_of.Tie as tie
+use Rattle.sheet_figures.proofs.site_of.Statement.{statement}
+use Rattle.sheet_figures.proofs.site_of.Tie as tie
 
 enum-known-item : tie.Need-enum-known-item
 enum-known-item c = search needs

@@ -1,0 +1,28 @@
+-- The figures that an item says: a site, or a roof with the slopes beside it.
+use Prim.Native.Nat.{ℕ}
+use mathlib.Core.List.{List}
+use Rattle.figures.specs.RoofRules.{noSlopes, roofOf}
+use Rattle.figures.specs.declared.site.Site.{Site}
+use Rattle.figures.specs.declared.roof.Shape.the-variants.{MultiSpan}
+use Rattle.figures.specs.declared.roof.Roof.{Roof}
+use Rattle.items.specs.declared.decoding.Item.{Item}
+use Rattle.items.specs.declared.decoding.Item.the-variants.{SiteItem, RoofItem, Malformed}
+
+-- a site and a roof of zeros, where there is none
+abbrev pub noSite : Site
+noSite = record { sk = 0; ce = 0; ct = 0; cesl = 0; situation = 0; altitude = 0 }
+
+abbrev pub noRoof : Roof
+noRoof = roofOf (MultiSpan 0) noSlopes
+
+-- the site that an item says
+abbrev pub siteBy : Item → Site
+siteBy (SiteItem site) = site
+siteBy (RoofItem shape) = noSite
+siteBy (Malformed number) = noSite
+
+-- the roof that an item says, with the slopes beside it
+abbrev pub roofBy : Item → List ℕ → Roof
+roofBy (SiteItem site) slopes = noRoof
+roofBy (RoofItem shape) slopes = roofOf shape slopes
+roofBy (Malformed number) slopes = noRoof
