@@ -7,7 +7,7 @@ use lib.ListN.{length, set}
 use native.Mathlib.Numerals.{add-one}
 use native.Mathlib.Omega.{arith}
 use Rattle.figures.specs.declared.roof.Slope.{Slope}
-use Rattle.items.specs.Numbers.{byteAt}
+use Rattle.little_endian.specs.Numbers.{byteAt}
 use Rattle.items.specs.Items.{malformed, sized, slopeAt, slopesFrom, byKind, content}
 use Rattle.items.specs.declared.decoding.Decoded.{Decoded}
 

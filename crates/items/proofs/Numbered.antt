@@ -5,7 +5,7 @@ use mathlib.Core.List.{List}
 use lib.Dec.{eqb}
 use lib.ListN.{length}
 use native.Mathlib.Omega.{arith}
-use Rattle.items.specs.Numbers.{byteAt}
+use Rattle.little_endian.specs.Numbers.{byteAt}
 use Rattle.items.specs.Items.{malformed, sized, siteItem, monopitchItem, pitchedItem, multiSpanItem, cylindricalItem, abuttingItem, projectionItem}
 use Rattle.items.specs.Items.{byKind, content}
 use Rattle.items.specs.declared.decoding.Item.{Item}

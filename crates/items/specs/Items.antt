@@ -9,7 +9,7 @@ use Rattle.figures.specs.RoofRules.{noSlopes}
 use Rattle.figures.specs.declared.site.Site.{Site}
 use Rattle.figures.specs.declared.roof.Slope.{Slope}
 use Rattle.figures.specs.declared.roof.Shape.the-variants.{Monopitch, Pitched, MultiSpan, Cylindrical, Abutting, Projection}
-use Rattle.items.specs.Numbers.{byteAt, le16, le32}
+use Rattle.little_endian.specs.Numbers.{byteAt, le16, le32}
 use Rattle.items.specs.declared.decoding.Item.{Item}
 use Rattle.items.specs.declared.decoding.Item.the-variants.{SiteItem, RoofItem, Malformed}
 use Rattle.items.specs.declared.decoding.Decoded.{Decoded}

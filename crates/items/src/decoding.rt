@@ -4,14 +4,14 @@ ghost use Prim.Native.Nat.{_+_, _*_, _≤_, min};
 ghost use lib.ListN.{length};
 ghost use Rattle.items.specs.Items.{itemAlone, malformed, slopeAt, slopesFrom, content};
 ghost use Rattle.items.specs.Items.{siteItem, monopitchItem, pitchedItem, multiSpanItem, cylindricalItem, abuttingItem, projectionItem};
-use crate::numbers::byte_to_usize;
-use crate::numbers::u16_at;
-use crate::numbers::u16_wide_at;
-use crate::numbers::u32_at;
 use figures::SLOPE_NUMBERS;
 use figures::Shape;
 use figures::Site;
 use figures::Slope;
+use little_endian::byte_to_usize;
+use little_endian::u16_at;
+use little_endian::u16_wide_at;
+use little_endian::u32_at;
 
 // Refusals of an item's form, by document 01's numbers.
 const UNKNOWN_KIND: u8 = 3;

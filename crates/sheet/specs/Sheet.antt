@@ -9,7 +9,7 @@ use Rattle.figures.specs.Ranges.{within}
 use Rattle.figures.specs.RoofRules.{shapeRefusal}
 use Rattle.figures.specs.SiteRules.{siteRefusal}
 use Rattle.items.specs.Items.{content}
-use Rattle.items.specs.Numbers.{le16}
+use Rattle.little_endian.specs.Numbers.{le16}
 use Rattle.items.specs.declared.decoding.Item.{Item}
 use Rattle.items.specs.declared.decoding.Item.the-variants.{SiteItem, RoofItem, Malformed}
 use Rattle.items.specs.declared.decoding.Decoded.{Decoded}

@@ -3,7 +3,7 @@ ghost use mathlib.Core.Path.{_≡_};
 ghost use Prim.Native.Nat.{_+_, _*_, _≤_};
 ghost use lib.ListN.{length};
 ghost use Rattle.sheet.specs.Sheet.{count, pairNumber, inTurn, pairsVerdict, verdictMeans};
-use items::index_at;
+use little_endian::index_at;
 
 // Refusals of a sheet's pairs, by document 01's numbers.
 const SHEET_LIMITS: u8 = 1;

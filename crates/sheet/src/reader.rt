@@ -10,7 +10,7 @@ use crate::pairs::Verdict;
 use crate::pairs::read_pairs;
 use items::Item;
 use items::decode;
-use items::index_at;
+use little_endian::index_at;
 use roof_rules::shape_refusal;
 use site_rules::site_refusal;
 

@@ -1,8 +1,8 @@
-// Little-endian numbers at a position of a slice of bytes.
+// Little-endian numbers at a position of a slice of bytes. These calls are for the crates above: each asks that its bytes are there.
 ghost use mathlib.Core.Path.{_≡_};
 ghost use Prim.Native.Nat.{_+_, _<_};
 ghost use lib.ListN.{length};
-ghost use Rattle.items.specs.Numbers.{le16, le32};
+ghost use Rattle.little_endian.specs.Numbers.{le16, le32};
 
 pub fn byte_to_usize(x: u8) -> usize
     ensures { λ r. ⌜ (r ≡ x) × (r < 256) ⌝ }
