@@ -7,7 +7,6 @@ ghost use Rattle.local_forces.specs.Answers.{forceMeans, AcceptedShape};
 ghost use Rattle.rounding.specs.Up.{ceilDiv};
 ghost use Rattle.standard.specs.Forces.{slopeAt, guardForce, guardAt, guardAnswer, guardDistance};
 use crate::answers::LocalForce;
-use crate::sine::sine;
 use crate::slopes::RoofSlope;
 use crate::slopes::slope_of;
 use crate::slopes::whole_load;
@@ -15,6 +14,7 @@ use figures::Roof;
 use figures::Shape;
 use figures::Site;
 use figures::Slope;
+use sines::sine;
 
 // A count of billionths, rounded up to a whole number.
 fn whole_number(billionths: u64) -> u64

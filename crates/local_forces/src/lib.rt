@@ -2,7 +2,6 @@
 mod answers;
 mod eaves;
 mod guards;
-mod sine;
 mod slopes;
 
 pub use answers::LocalForce;

@@ -1,4 +1,4 @@
-// The sine of a pitch, from the table.
+// The sine of a pitch, from a table of 801 entries. For the crates above: it asks for a pitch of at most 80.0°.
 ghost use mathlib.Core.Path.{_≡_};
 ghost use Prim.Native.Nat.{_≤_};
 ghost use Rattle.standard.specs.Sine.{sineEntry};

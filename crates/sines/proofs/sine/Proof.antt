@@ -9,10 +9,10 @@ use lib.Dec.{eqb, eqb→eq}
 use Rattle.standard.specs.Sine.{sineReference, sineEntry}
 use Rattle.standard.proofs.Tested.{every-at}
 use borrow.Author.Needs.{needs}
-use Rattle.local_forces.proofs.sine.sine.Statement.{statement}
-use Rattle.local_forces.proofs.sine.sine.Tie as tie
-use Rattle.local_forces.proofs.sine.sine.Reads as reads
-use Rattle.local_forces.proofs.sine.sine.Lts as lts
+use Rattle.sines.proofs.sine.Statement.{statement}
+use Rattle.sines.proofs.sine.Tie as tie
+use Rattle.sines.proofs.sine.Reads as reads
+use Rattle.sines.proofs.sine.Lts as lts
 
 -- the table, as the function has it: its second local
 abbrev table : tie.Start → List ℕ
