@@ -1,17 +1,17 @@
 // Local forces, over the whole load S of a slope.
 ghost use Prim.Native.Nat.{_≤_};
-use super::figure::multiple;
-use super::load::ground_of;
-use super::load::load_on;
-use super::number::least;
-use super::number::times;
-use super::number::whole;
 use super::roof::segment_at;
-use super::series::sine;
 use figures::Roof;
 use figures::Shape;
 use figures::Site;
 use figures::Slope;
+use second_loads::ground_of;
+use second_loads::load_on;
+use second_numbers::least;
+use second_numbers::multiple;
+use second_numbers::sine;
+use second_numbers::times;
+use second_numbers::whole;
 
 // In the place of a force where there is none.
 pub const NO_FORCE: u32 = 4_294_967_295;

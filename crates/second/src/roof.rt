@@ -1,22 +1,22 @@
 // What a roof has: its codes, its end, and its segments from left to right, all six kinds.
 ghost use Prim.Native.Nat.{_≤_, _<_};
-use super::arch::arch_count;
-use super::arch::on_cylinder;
-use super::drift::around_projection;
-use super::drift::at_wall;
-use super::drift::beyond_wall;
-use super::drift::projection_count;
-use super::drift::wall_count;
-use super::figure::quarters;
-use super::figure::sum;
-use super::segment::Segment;
-use super::slopes::on_left;
-use super::slopes::on_monopitch;
-use super::slopes::on_right;
-use super::slopes::on_spans;
-use super::slopes::slope_start;
 use figures::Roof;
 use figures::Shape;
+use second_arch::arch_count;
+use second_arch::on_cylinder;
+use second_drifts::around_projection;
+use second_drifts::at_wall;
+use second_drifts::beyond_wall;
+use second_drifts::projection_count;
+use second_drifts::wall_count;
+use second_numbers::Segment;
+use second_numbers::quarters;
+use second_numbers::sum;
+use second_slopes::on_left;
+use second_slopes::on_monopitch;
+use second_slopes::on_right;
+use second_slopes::on_spans;
+use second_slopes::slope_start;
 
 // The code of the same shape without Cesl.
 fn persistent(code: u8) -> u8 {

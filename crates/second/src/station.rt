@@ -1,12 +1,12 @@
 // The load read at a station, and how far it lies above the exact load there.
-use super::load::Ground;
-use super::load::above_exact;
-use super::load::load_if_held;
 use super::roof::segment_at;
 use super::roof::segment_count;
-use super::segment::Segment;
-use super::segment::holds;
 use figures::Roof;
+use second_loads::Ground;
+use second_loads::above_exact;
+use second_loads::load_if_held;
+use second_numbers::Segment;
+use second_numbers::holds;
 
 fn greater(a: u32, b: u32) -> u32 {
     if a < b { b } else { a }

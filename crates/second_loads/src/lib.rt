@@ -1,0 +1,111 @@
+// The loads of the second calculation: μ × Ce × Ct × sk, times Cesl in the accidental codes, and rounded up.
+use figures::Site;
+use second_numbers::Ratio;
+use second_numbers::Segment;
+use second_numbers::along;
+use second_numbers::difference;
+use second_numbers::holds;
+use second_numbers::least;
+use second_numbers::multiple;
+use second_numbers::not_above;
+use second_numbers::plus;
+use second_numbers::sum;
+use second_numbers::times;
+use second_numbers::whole;
+
+const MILLION: u32 = 1_000_000;
+
+// The ground load and Ce × Ct × Cesl in millionths, with Cesl = 1 in the codes below 11.
+pub struct Ground {
+    pub factor: u32,
+    pub sk: u32,
+}
+
+pub fn ground_of(site: Site, code: u8) -> Ground {
+    let usual = multiple(site.ce as u32, site.ct as u32);
+    let falls = if code < 11 { 100 } else { site.cesl as u32 };
+    Ground {
+        factor: multiple(usual, falls),
+        sk: site.sk,
+    }
+}
+
+// The load at a coefficient, rounded up.
+fn rounded(ground: Ground, ratio: Ratio) -> u32 {
+    least(
+        times(times(whole(ratio.num), ground.factor), ground.sk),
+        times(whole(ratio.den), MILLION),
+    )
+}
+
+// The break load at the beginning of the uncut line: two parts, each rounded up, and added.
+fn first_break(ground: Ground, segment: Segment) -> u32 {
+    sum(
+        rounded(ground, segment.from),
+        rounded(ground, segment.slide),
+    )
+}
+
+// The load that a segment reads at a station on it, between the break loads of the uncut line, rounded up.
+pub fn load_on(ground: Ground, segment: Segment, station: u32) -> u32 {
+    let before = along(segment, station);
+    let after = difference(segment.length, before);
+    least(
+        plus(
+            times(whole(first_break(ground, segment)), after),
+            times(whole(rounded(ground, segment.to)), before),
+        ),
+        whole(segment.length),
+    )
+}
+
+// What a segment reads at a station, 0 if it does not hold it.
+pub fn load_if_held(ground: Ground, segment: Segment, station: u32) -> u32 {
+    if holds(segment, station) {
+        load_on(ground, segment, station)
+    } else {
+        0
+    }
+}
+
+// The exact coefficient at a station on the segment, over the product of the three denominators and the length.
+fn exact_num(segment: Segment, station: u32) -> [u32; 8] {
+    let before = along(segment, station);
+    let after = difference(segment.length, before);
+    let from = segment.from;
+    let slide = segment.slide;
+    let to = segment.to;
+    let wind = times(times(times(whole(from.num), slide.den), to.den), after);
+    let slid = times(times(times(whole(slide.num), from.den), to.den), after);
+    let end = times(times(times(whole(to.num), from.den), slide.den), before);
+    plus(plus(wind, slid), end)
+}
+
+fn exact_den(segment: Segment) -> [u32; 8] {
+    let from = segment.from;
+    let slide = segment.slide;
+    let to = segment.to;
+    times(
+        times(times(whole(from.den), slide.den), to.den),
+        segment.length,
+    )
+}
+
+// Whether a load is so many thousandths of a N/m² or more above the exact load of the segment at a station on it:
+// exact ≤ load − thousandths/1,000, with exact = num × factor × sk / (den × 1,000,000), multiplied out.
+pub fn above_exact(
+    ground: Ground,
+    segment: Segment,
+    station: u32,
+    load: u32,
+    thousandths: u32,
+) -> bool {
+    let thousand = multiple(load, 1_000);
+    if thousand < thousandths {
+        return false;
+    }
+    not_above(
+        times(times(exact_num(segment, station), ground.factor), ground.sk),
+        times(times(exact_den(segment), 1_000), thousand - thousandths),
+    )
+}
