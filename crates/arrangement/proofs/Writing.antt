@@ -6,8 +6,8 @@ use lib.ListN.{length, set, take, drop, length-append}
 use lib.Seq.{sets-eq, take-at, drop-append-add, drop-drop}
 use native.Mathlib.Numerals.{add-one}
 use native.Mathlib.Omega.{arith}
-use Rattle.segments.specs.Ramps.{rampOf, readRamp}
-use Rattle.segments.specs.declared.ramps.Ramp.{Ramp}
+use Rattle.ramps.specs.Ramps.{rampOf, readRamp}
+use Rattle.ramps.specs.declared.Ramp.{Ramp}
 use Rattle.standard.specs.Stretch.{Stretch, readIn, startOf, segment, segments}
 
 pub four :

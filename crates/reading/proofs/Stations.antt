@@ -5,8 +5,8 @@ use borrow.Author.Tests.{le-leb, lt-leb}
 use native.Mathlib.Numerals.{add-one}
 use Rattle.figures.specs.declared.site.Site.{Site}
 use Rattle.figures.specs.declared.roof.Roof.{Roof}
-use Rattle.segments.specs.Ramps.{rampOf, readRamp}
-use Rattle.segments.specs.declared.ramps.Ramp.{Ramp}
+use Rattle.ramps.specs.Ramps.{rampOf, readRamp}
+use Rattle.ramps.specs.declared.Ramp.{Ramp}
 use Rattle.standard.specs.Answers.{value, refused, stationAnswer, loadAnswer}
 use Rattle.standard.specs.Arrangements.{count, stretch, endOf, endIn, loadAt}
 use Rattle.standard.specs.Coefficients.{recommendedFigures}

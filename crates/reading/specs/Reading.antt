@@ -3,8 +3,8 @@ use Prim.Native.Nat.{ℕ, _-_, _≤_}
 use mathlib.Core.Bool.{cond}
 use Rattle.figures.specs.declared.site.Site.{Site}
 use Rattle.figures.specs.declared.roof.Roof.{Roof}
-use Rattle.segments.specs.Ramps.{readRamp}
-use Rattle.segments.specs.declared.ramps.Ramp.{Ramp}
+use Rattle.ramps.specs.Ramps.{readRamp}
+use Rattle.ramps.specs.declared.Ramp.{Ramp}
 use Rattle.standard.specs.Answers.{Answer, value, refused}
 use Rattle.standard.specs.Arrangements.{exactAt}
 use Rattle.standard.specs.Coefficients.{recommendedFigures}

@@ -3,7 +3,7 @@ ghost use mathlib.Core.Path.{_≡_};
 ghost use Prim.Native.Nat.{_≤_};
 ghost use Rattle.figures.specs.RoofRules.{roofOf};
 ghost use Rattle.reading.specs.Reading.{readingMeans, valueOf, distanceOf};
-ghost use Rattle.segments.specs.Ramps.{RampIn};
+ghost use Rattle.ramps.specs.Ramps.{RampIn};
 ghost use Rattle.standard.specs.Answers.{stationAnswer, loadAnswer};
 ghost use Rattle.standard.specs.Arrangements.{count, stretch};
 ghost use Rattle.standard.specs.Bounds.{FiguresIn};

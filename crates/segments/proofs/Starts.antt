@@ -10,8 +10,8 @@ use Rattle.standard.specs.Stretch.{Stretch, startOf}
 use Rattle.standard.specs.Units.{largestPosition}
 use Rattle.standard.specs.declared.National.{National}
 use Rattle.standard.proofs.Demand.{start-on-roof, end-in-range}
-use Rattle.segments.specs.Ramps.{rampOf}
-use Rattle.segments.specs.declared.ramps.Ramp.{Ramp}
+use Rattle.ramps.specs.Ramps.{rampOf}
+use Rattle.ramps.specs.declared.Ramp.{Ramp}
 
 pub next-start : (S : ℕ → Stretch) (i start : ℕ) (r : Ramp) → start ≡ startOf S i → r ≡ rampOf (S i) → start + r .extent ≡ startOf S (suc i)
 unfolding startOf rampOf

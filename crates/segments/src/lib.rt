@@ -1,18 +1,11 @@
 // The ramp that each segment is cut from, by its index, for every kind of roof; how many segments an arrangement has, and where
 // the roof ends. These calls are for the crates above: what they require, accepted figures keep.
-mod abutting;
-mod cylindrical;
 mod dispatch;
-mod monopitch;
-mod multi_span;
-mod pitched;
-mod projection;
-mod ramps;
 
 ghost use mathlib.Core.Path.{_≡_};
 ghost use Prim.Native.Nat.{_≤_, _<_};
 ghost use Rattle.figures.specs.RoofRules.{roofOf};
-ghost use Rattle.segments.specs.Ramps.{rampOf, RampIn};
+ghost use Rattle.ramps.specs.Ramps.{rampOf, RampIn};
 ghost use Rattle.standard.specs.Arrangements.{stretch};
 ghost use Rattle.standard.specs.Bounds.{FiguresIn};
 pub use dispatch::end;
