@@ -106,7 +106,9 @@ abutting-apart national b2 h false (suc i) c e = at-most-two (ltb (abuttingLengt
     at-most-two false c = omega arith
 
 -- past the drift's ramp, the lower roof is longer than the drift
-pub abutting-past : (national : National) (b2 h i : ℕ) (undrifted : Bool) → i < abuttingCount national b2 h undrifted → undrifted ≡ false → (i ≡ 0 → ⊥) → abuttingLength national h < b2
+pub abutting-past :
+    (national : National) (b2 h i : ℕ) (undrifted : Bool) → i < abuttingCount national b2 h undrifted → undrifted ≡ false → (i ≡ 0 → ⊥)
+    → abuttingLength national h < b2
 unfolding abuttingCount
 abutting-past national b2 h i true lt e n = let z : _≡_ {A = ℕ} 0 1 = cc in absurd (omega arith)
 abutting-past national b2 h i false lt e n = go (ltb (abuttingLength national h) b2) refl lt

@@ -309,7 +309,9 @@ pub record ArchRow (undrifted : Bool) (ls span i j : ℕ) : Type 0 where
   pub even-last : undrifted ≡ true → (j ≡ 1 → ⊥) → ls < span
   pub drift-last : undrifted ≡ false → 4 < j → ls < span
 
-arch-row-by : (undrifted b : Bool) (ls span i : ℕ) → (b ≡ true → ls < span) → i < cond undrifted (cond b 3 1) (cond b 6 4) → ArchRow undrifted ls span i (cond b i (suc i))
+arch-row-by :
+    (undrifted b : Bool) (ls span i : ℕ) → (b ≡ true → ls < span) → i < cond undrifted (cond b 3 1) (cond b 6 4)
+    → ArchRow undrifted ls span i (cond b i (suc i))
 arch-row-by true true ls span i f h = record { few = omega arith; first = λ e. f refl; even-last = λ e g. f refl; drift-last = λ e g. f refl }
 arch-row-by true false ls span i f h =
     record { few = omega arith; first = λ e. absurd (omega arith); even-last = λ e g. absurd (g (omega arith)); drift-last = λ e g. absurd (omega arith) }

@@ -124,7 +124,9 @@ pub record ProjectionRow (ls left right i j : ℕ) : Type 0 where
   pub first : j ≡ 0 → ls < left
   pub last : 2 < j → ls < right
 
-projection-row-by : (a b : Bool) (ls left right i : ℕ) → (a ≡ true → ls < left) → (b ≡ true → ls < right) → i < cond a 1 0 + (2 + cond b 1 0) → ProjectionRow ls left right i (cond a i (suc i))
+projection-row-by :
+    (a b : Bool) (ls left right i : ℕ) → (a ≡ true → ls < left) → (b ≡ true → ls < right) → i < cond a 1 0 + (2 + cond b 1 0)
+    → ProjectionRow ls left right i (cond a i (suc i))
 projection-row-by true true ls left right i f g h = record { few = omega arith; first = λ e. f refl; last = λ e. g refl }
 projection-row-by true false ls left right i f g h = record { few = omega arith; first = λ e. f refl; last = λ e. absurd (omega arith) }
 projection-row-by false true ls left right i f g h = record { few = omega arith; first = λ e. absurd (omega arith); last = λ e. g refl }
