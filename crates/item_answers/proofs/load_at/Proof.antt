@@ -26,7 +26,9 @@ refusal-requires-2 : tie.Need-refusal-requires-2
 refusal-requires-2 c κs = search needs
 
 returns : tie.Need-returns
-returns c = rw (c .before .before .enum-told .given .1) (c .load .ensures ∙ ap (answerCode (c .before .before .before .before .args .item)) (c .before .load-at .ensures .0))
+returns c =
+    let item = c .before .before .before .before .args .item in
+    rw (c .before .before .enum-told .given .1) (c .load .ensures ∙ ap (answerCode item) (c .before .load-at .ensures .0))
 
 returns-2 : tie.Need-returns-2
 returns-2 c = rw (c .before .enum-told2 .given .1) (c .refusal .ensures)

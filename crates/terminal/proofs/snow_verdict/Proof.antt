@@ -15,7 +15,10 @@ enum-known-n : tie.Need-enum-known-n
 enum-known-n c = search needs
 
 cast-result : tie.Need-cast-result
-cast-result c = let e = sym (ap verdictMeans (c .before .n .given .1)) ∙ c .before .before .before .verdict .ensures in record { fits = omega (arith, sheet-kept terminals (now (c .before .before .before .before .before .args .sheet)) (c .before .n .given .0 .0) (sym e) .pairs .fit .items) }
+cast-result c =
+    let e = sym (ap verdictMeans (c .before .n .given .1)) ∙ c .before .before .before .verdict .ensures in
+    let sheet = now (c .before .before .before .before .before .args .sheet) in
+    record { fits = omega (arith, sheet-kept terminals sheet (c .before .n .given .0 .0) (sym e) .pairs .fit .items) }
 
 enum-known-number : tie.Need-enum-known-number
 enum-known-number c = search needs
@@ -27,7 +30,9 @@ returns : tie.Need-returns
 returns c = ap verdictCode (sym (ap verdictMeans (c .before .n .given .1)) ∙ c .before .before .before .verdict .ensures)
 
 returns-2 : tie.Need-returns-2
-returns-2 c = c .refusal .ensures ∙ ap verdictCode (sym (ap verdictMeans (c .before .before .number .given .1)) ∙ c .before .before .before .before .verdict .ensures)
+returns-2 c =
+    let e = sym (ap verdictMeans (c .before .before .number .given .1)) ∙ c .before .before .before .before .verdict .ensures in
+    c .refusal .ensures ∙ ap verdictCode e
 
 pub snow-verdict-spec : {M : Type 1} → statement M
 snow-verdict-spec =

@@ -25,7 +25,9 @@ returns-2 : tie.Need-returns-2
 returns-2 c = search needs
 
 returns-3 : tie.Need-returns-3
-returns-3 c = c .refusal .ensures ∙ ap (λ (a : LocalForce). forceCode (c .before .before .before .before .args .item) (forceMeans a)) (sym (c .before .before .answer2 .given .1))
+returns-3 c =
+    let item = c .before .before .before .before .args .item in
+    c .refusal .ensures ∙ ap (λ (a : LocalForce). forceCode item (forceMeans a)) (sym (c .before .before .answer2 .given .1))
 
 pub force-spec : {M : Type 1} → statement M
 force-spec =

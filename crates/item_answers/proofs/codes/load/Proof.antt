@@ -19,7 +19,9 @@ returns : tie.Need-returns
 returns c = search needs
 
 returns-2 : tie.Need-returns-2
-returns-2 c = c .refusal .ensures ∙ ap (λ (a : Reading). answerCode (c .before .before .before .before .args .item) (readingMeans a)) (sym (c .before .before .answer2 .given .1))
+returns-2 c =
+    let item = c .before .before .before .before .args .item in
+    c .refusal .ensures ∙ ap (λ (a : Reading). answerCode item (readingMeans a)) (sym (c .before .before .answer2 .given .1))
 
 pub load-spec : {M : Type 1} → statement M
 load-spec =

@@ -23,7 +23,9 @@ returns : tie.Need-returns
 returns c = search needs
 
 returns-2 : tie.Need-returns-2
-returns-2 c = c .refusal .ensures ∙ ap (λ (a : Made). answerCode (c .before .before .before .before .args .item) (madeMeans a)) (sym (c .before .before .answer2 .given .1))
+returns-2 c =
+    let item = c .before .before .before .before .args .item in
+    c .refusal .ensures ∙ ap (λ (a : Made). answerCode item (madeMeans a)) (sym (c .before .before .answer2 .given .1))
 
 pub made-spec : {M : Type 1} → statement M
 made-spec =
