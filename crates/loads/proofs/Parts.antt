@@ -1,5 +1,5 @@
 -- A part that code rounds up over one denominator is the part of the definition; a break load adds them.
-use Prim.Native.Nat.{ℕ, _+_, _*_, _<_}
+use Prim.Native.Nat.{ℕ, _+_, _*_, _≤_, _<_}
 use mathlib.Core.Path.{_≡_, sym, ap, _∙_}
 use mathlib.Core.Bool.{true}
 use native.Mathlib.Omega.{arith}
@@ -9,7 +9,8 @@ use Rattle.rounding.specs.Up.{ceilDiv, roundedUp}
 use Rattle.rounding.proofs.Ramps.{break-alone}
 use Rattle.rounding.proofs.Rounding.{up-same}
 use Rattle.standard.specs.Pitched.{halved}
-use Rattle.standard.specs.Stretch.{load}
+use Rattle.standard.specs.Stretch.{load, loadAlone}
+use Rattle.standard.specs.Units.{largestPart}
 use Rattle.standard.proofs.Loads.{load-positive}
 use Rattle.standard.proofs.Numerators.{load-same, load-without}
 
@@ -18,19 +19,27 @@ up-whole : (n d : ℕ) → ceilDiv n d ≡ roundedUp 1 (over n d)
 unfolding roundedUp
 up-whole n d = ap (λ (z : ℕ). ceilDiv z d) (omega arith)
 
-module _ (mu : Fraction) (m d factor sk r : ℕ) (h : 0 < mu .den) (hd : 0 < d) where
+-- a shape coefficient as code has it, m over d
+pub record Coefficient (mu : Fraction) (m d : ℕ) : Type 0 where
+  pub true : 0 < mu .den
+  pub some : 0 < d
+  pub same : Same mu (over m d)
+
+module _ (mu : Fraction) (m d factor sk r : ℕ) where
   -- the load at μ = m / d
-  pub part-is : Same mu (over m d) → r ≡ ceilDiv (m * factor * sk) (d * 1000000) → r ≡ roundedUp 1 (load mu factor sk)
+  pub part-is : Coefficient mu m d → r ≡ ceilDiv (m * factor * sk) (d * 1000000) → r ≡ roundedUp 1 (load mu factor sk)
   unfolding load
-  part-is p e =
+  part-is h e =
+      let hd : 0 < d = h .some in
       e ∙ (up-whole (m * factor * sk) (d * 1000000)
-      ∙ sym (up-same 1 (load mu factor sk) (load (over m d) factor sk) (load-positive mu factor sk h) (omega arith) (load-same mu (over m d) factor sk p)))
+      ∙ sym (up-same 1 _ _ (load-positive mu factor sk (h .true)) (omega arith) (load-same mu (over m d) factor sk (h .same))))
 
   -- the load at μ = m / (d × sk)
-  pub part-without : Same mu (over m (d * sk)) → r ≡ ceilDiv (m * factor) (d * 1000000) → r ≡ roundedUp 1 (load mu factor sk)
-  part-without p e =
+  pub part-without :
+      0 < mu .den → 0 < d → Same mu (over m (d * sk)) → r ≡ ceilDiv (m * factor) (d * 1000000) → r ≡ roundedUp 1 (load mu factor sk)
+  part-without h hd p e =
       e ∙ (up-whole (m * factor) (d * 1000000)
-      ∙ sym (up-same 1 (load mu factor sk) (over (m * factor) (d * 1000000)) (load-positive mu factor sk h) (omega arith) (load-without mu m d factor sk p)))
+      ∙ sym (up-same 1 _ _ (load-positive mu factor sk h) (omega arith) (load-without mu m d factor sk p)))
 
 -- a load of one part, and of two
 pub alone-is : (f : Fraction) (r : ℕ) → r ≡ roundedUp 1 f → r ≡ breakLoad 1 (alone f)
@@ -40,7 +49,20 @@ pub both-are : (f g : Fraction) (x y : ℕ) → x ≡ roundedUp 1 f → y ≡ ro
 unfolding breakLoad
 both-are f g x y p q = rw (← p, ← q)
 
--- half of a coefficient
-pub half-is : (mu : Fraction) (m d : ℕ) → Same mu (over m d) → Same (halved true mu) (over m (2 * d))
-unfolding Same
-half-is mu m d p = omega arith
+-- a load of one part, whether of a coefficient or of half of it
+abbrev Loaded : Fraction → ℕ → ℕ → ℕ → Type 0
+Loaded mu factor sk r = (r ≡ breakLoad 1 (loadAlone mu factor sk)) × (r ≤ largestPart)
+
+abbrev Rounded : ℕ → ℕ → ℕ → Type 0
+Rounded n d r = (r ≡ ceilDiv n (d * 1000000)) × (r ≤ largestPart)
+
+module _ (mu : Fraction) (m d factor sk r : ℕ) (h : Coefficient mu m d) where
+  pub load-is : Rounded (m * factor * sk) d r → Loaded mu factor sk r
+  load-is e = (alone-is _ r (part-is mu m d factor sk r h (e .0)), e .1)
+
+  half : Coefficient (halved true mu) m (2 * d)
+  unfolding Same
+  half = record { true = omega (arith, h .true); some = omega (arith, h .some); same = omega (arith, h .same) }
+
+  pub half-load-is : Rounded (m * factor * sk) (2 * d) r → Loaded (halved true mu) factor sk r
+  half-load-is e = (alone-is _ r (part-is (halved true mu) m (2 * d) factor sk r half (e .0)), e .1)

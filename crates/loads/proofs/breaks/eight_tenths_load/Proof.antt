@@ -1,4 +1,4 @@
-use Rattle.loads.proofs.Parts.{part-is, alone-is}
+use Rattle.loads.proofs.Parts.{load-is}
 use Rattle.rounding.specs.Fraction.{over, Same}
 use mathlib.Core.Path.{refl}
 use native.Mathlib.Omega.{arith}
@@ -11,7 +11,9 @@ load-up-requires c κs = search needs
 
 returns : tie.Need-returns
 unfolding Same
-returns c = (alone-is _ _ (part-is (over 8 10) 8 10 _ _ _ (omega arith) (omega arith) refl (c .load-up .ensures .0)), c .load-up .ensures .1)
+returns c =
+    let a = c .before .args in
+    load-is (over 8 10) 8 10 (a .factor) (a .sk) _ (record { true = omega arith; some = omega arith; same = refl }) (c .load-up .ensures)
 
 pub eight-tenths-load-spec : {M : Type 1} → statement M
 eight-tenths-load-spec = tie.close (tie.spec load-up-requires returns)

@@ -23,7 +23,15 @@ up-requires c κs = (omega arith, omega arith, omega (arith, mul-le-mul (small c
 
 returns : tie.Need-returns
 unfolding projectionLoad
-returns c = let s = c .before .before in let a = s .args in (alone-is _ _ (part-without (muProjection (a .h) (a .sk)) _ 10 _ _ _ (projection-positive (a .h) (a .sk) (s .pre .1 .sk .low)) (omega arith) (rw (c .before .projection-numerator .ensures .0) (projection-is (a .h) (a .sk) (s .pre .1 .sk .low))) (c .up .ensures .0)), c .up .ensures .1)
+returns c =
+    let a = c .before .before .args in
+    let s = c .before .before .pre .1 .sk .low in
+    let m = c .before .projection-numerator in (
+      alone-is _ _
+          (part-without (muProjection (a .h) (a .sk)) (m .result) 10 (a .factor) (a .sk) _ (projection-positive (a .h) (a .sk) s) (omega arith)
+          (rw (m .ensures .0) (projection-is (a .h) (a .sk) s)) (c .up .ensures .0)),
+      c .up .ensures .1,
+    )
 
 pub projection-load-spec : {M : Type 1} → statement M
 projection-load-spec = tie.close (tie.spec projection-numerator-requires mul-up up-requires returns)

@@ -1,3 +1,4 @@
+use Prim.Native.Nat.{_*_, _≤_}
 use native.Mathlib.Nat.{mul-le-mul}
 use Rattle.standard.specs.Numerators.{slideNum}
 use borrow.Author.Tests.{le-leb, lt-leb}
@@ -5,6 +6,9 @@ use native.Mathlib.Omega.{arith}
 use borrow.Author.Needs.{needs}
 use Rattle.loads.proofs.coefficients.slide_numerator.Statement.{statement}
 use Rattle.loads.proofs.coefficients.slide_numerator.Tie as tie
+
+most : (c : tie.After-slope-numerator) → c .slope-numerator .result * c .before .before .before .args .slope .width ≤ 300 * 100000
+most c = mul-le-mul (c .slope-numerator .ensures .1) (c .before .before .before .pre .1)
 
 returns : tie.Need-returns
 unfolding slideNum
@@ -17,11 +21,13 @@ cast-result : tie.Need-cast-result
 cast-result c = search needs
 
 mul-result : tie.Need-mul-result
-mul-result c = omega (arith, mul-le-mul (c .before .slope-numerator .ensures .1) (c .before .before .before .before .pre .1))
+mul-result c = omega (arith, most (c .before))
 
 returns-2 : tie.Need-returns-2
 unfolding slideNum
-returns-2 c = (rw (c .before .slope-numerator .ensures .0, lt-leb (c .before .before .before .before .args .slope .pitch) 150 (c .before .before .if1 .left)), omega (arith, mul-le-mul (c .before .slope-numerator .ensures .1) (c .before .before .before .before .pre .1)))
+returns-2 c =
+    let steep = lt-leb (c .before .before .before .before .args .slope .pitch) 150 (c .before .before .if1 .left) in
+    (rw (c .before .slope-numerator .ensures .0, steep), omega (arith, most (c .before)))
 
 pub slide-numerator-spec : {M : Type 1} → statement M
 slide-numerator-spec =

@@ -47,9 +47,10 @@ limited-requires c κs = search needs
 
 returns : tie.Need-returns
 unfolding windNum
-returns c = let s = c .before .before .before in
-    let a = s .args in
-    (c .limited .ensures, omega (arith, c .limited .ensures, mul-le-mul-right (a .h * a .sk) (s .pre .0 .low .high), mul-le-mul-right (a .h * a .sk) (s .pre .0 .high .high)))
+returns c =
+    let hs = c .before .before .before .args .h * c .before .before .before .args .sk in
+    let n = c .before .before .before .pre .0 in
+    (c .limited .ensures, omega (arith, c .limited .ensures, mul-le-mul-right hs (n .low .high), mul-le-mul-right hs (n .high .high)))
 
 pub wind-numerator-spec : {M : Type 1} → statement M
 wind-numerator-spec =

@@ -9,13 +9,16 @@ use Rattle.loads.proofs.lengths.least_width.Statement.{statement}
 use Rattle.loads.proofs.lengths.least_width.Tie as tie
 
 abbrev Inv-loop : tie.InvT-loop
-Inv-loop rise span short₀ wide₀ short wide = (short < wide) × (wide ≤ span) × (wideEnough rise span short ≡ false) × (wideEnough rise span wide ≡ true)
+Inv-loop rise span short₀ wide₀ short wide =
+    (short < wide) × (wide ≤ span) × (wideEnough rise span short ≡ false) × (wideEnough rise span wide ≡ true)
 
 abbrev μ-loop : tie.MeasureT-loop
 μ-loop rise span short₀ wide₀ short wide = wide - short
 
 loop-holds : tie.Need-loop-holds Inv-loop μ-loop
-loop-holds c = let p = c .pre in (omega (arith, p .0 .span .low), omega arith, none-reaches _ _ (p .0 .rise .low), span-wide-enough _ _ (p .0 .half) (p .1))
+loop-holds c =
+    let p = c .pre in
+    (omega (arith, p .0 .span .low), omega arith, none-reaches _ _ (p .0 .rise .low), span-wide-enough _ _ (p .0 .half) (p .1))
 
 sub-loop : tie.Need-sub-loop Inv-loop μ-loop
 sub-loop c = omega arith
@@ -39,7 +42,11 @@ loop-again-2 : tie.Need-loop-again-2 Inv-loop μ-loop
 loop-again-2 c = let l = c .before .before .before .loop in (omega arith, omega arith, sym (c .before .wide-enough .ensures) ∙ c .if1 .left, l .inv .3)
 
 returns : tie.Need-returns Inv-loop μ-loop
-returns c = let l = c .before .loop in (halved-out _ _ (l .short) (l .wide) (c .before .before .pre .1) (l .inv .2) (l .inv .3) (omega arith) (l .inv .1), record { low = omega arith; high = omega arith })
+returns c =
+    let l = c .before .loop in (
+      halved-out _ _ (l .short) (l .wide) (c .before .before .pre .1) (l .inv .2) (l .inv .3) (omega arith) (l .inv .1),
+      record { low = omega arith; high = omega arith },
+    )
 
 pub least-width-spec : {M : Type 1} → statement M
 least-width-spec =
