@@ -12,7 +12,7 @@ most c = mul-le-mul (c .slope-numerator .ensures .1) (c .before .before .before 
 
 returns : tie.Need-returns
 unfolding slideNum
-returns c = (rw (le-leb (c .before .before .args .slope .pitch) 150 (c .if1 .taken)), omega arith)
+returns c = (rw (le-leb (c .before .before .args .slope .pitch) 150 (omega arith)), omega arith)
 
 slope-numerator-requires : tie.Need-slope-numerator-requires
 slope-numerator-requires c κs = search needs
@@ -26,7 +26,7 @@ mul-result c = omega (arith, most (c .before))
 returns-2 : tie.Need-returns-2
 unfolding slideNum
 returns-2 c =
-    let steep = lt-leb (c .before .before .before .before .args .slope .pitch) 150 (c .before .before .if1 .left) in
+    let steep = lt-leb (c .before .before .before .before .args .slope .pitch) 150 (omega arith) in
     (rw (c .before .slope-numerator .ensures .0, steep), omega (arith, most (c .before)))
 
 pub slide-numerator-spec : {M : Type 1} → statement M
