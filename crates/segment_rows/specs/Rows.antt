@@ -1,26 +1,2 @@
--- Rows of segments, and a write whose last bytes are still to be written over.
-use Prim.Native.Nat.{ℕ, zero, suc, _+_, _*_, _≤_}
-use mathlib.Core.Path.{_≡_}
-use mathlib.Core.List.{List, [], _∷_, _++_}
-use lib.ListN.{length, getD}
-use lib.Seq.{sets}
-use Rattle.digits.specs.Words.{Means}
-use Rattle.text.specs.Text.{row}
-use Rattle.segment_rows.specs.declared.quick.Held.{Held}
-
--- the rows of the first k segments of a slice, four numbers each
-unfoldable pub sliceRows : List ℕ → ℕ → ℕ → ℕ → List ℕ
-sliceRows numbers item code zero = []
-sliceRows numbers item code (suc k) =
-    sliceRows numbers item code k
-    ++ row (item ∷ code ∷ getD numbers (4 * k) 0 ∷ getD numbers (4 * k + 1) 0 ∷ getD numbers (4 * k + 2) 0 ∷ getD numbers (4 * k + 3) 0 ∷ [])
-
--- h holds its number's decimal
-abbrev pub Holds : Held → Type 0
-Holds h = Means (h .number) (h .digits)
-
--- text was written from `at` on, up to r; some bytes behind r are spoiled: whatever of at least k bytes is written there next puts it right
-pub record Loose (k : ℕ) (before : List ℕ) (at : ℕ) (text after : List ℕ) (r : ℕ) : Type 0 where
-  pub bytes : (next : List ℕ) → k ≤ length next → sets after r next ≡ sets before at (text ++ next)
-  pub end : r ≡ at + length text
-  pub size : length after ≡ length before
+-- Rows of segments: what they say is defined beside the plain way of writing them.
+unfoldable pub use Rattle.plain_rows.specs.Rows.{sliceRows}

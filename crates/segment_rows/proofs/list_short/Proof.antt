@@ -3,8 +3,9 @@ use mathlib.Core.Path.{ap, sym}
 use native.Mathlib.Numerals.{add-one}
 use denote.Ref.{now}
 use Rattle.text.proofs.Writing.{wrote-as}
+use Rattle.plain_rows.specs.Rows.{sliceRow}
 use Rattle.segment_rows.specs.Rows.{sliceRows}
-use Rattle.segment_rows.proofs.Spoiled.{finish, row-covers}
+use Rattle.digit_rows.proofs.Spoiled.{finish, row-covers}
 use native.Mathlib.Omega.{arith}
 use borrow.Author.Needs.{needs}
 use Rattle.segment_rows.proofs.list_short.Statement.{statement}
@@ -67,10 +68,14 @@ same-length c = search needs
 returns : tie.Need-returns
 unfolding sliceRows
 returns c =
-    let z = c .before .before .before .before .before .before .before .before .before .before .before .before .before .before .before .before .before .before .before .before .args in
-    let s = c .before .before .before .before .before .before .before .before .before .before .put-segments in
     let p = c .before .before .put-row6 in
-    (wrote-as (finish 6 (s .ensures .0) (p .ensures .0) (row-covers _ _ _ _ _ _)) (ap (sliceRows (now (z .numbers)) (z .item) (z .code)) (sym (add-one (z .n)))), omega (arith, p .ensures .1, s .ensures .1))
+    let k = c .before .before .before .before .before .before .before .before .before .before in
+    let s = k .put-segments in
+    let z = k .before .before .before .before .before .before .before .before .before .before .args in
+    let rows = sliceRows (now (z .numbers)) (z .item) (z .code) in
+    let last = sliceRow (now (z .numbers)) (z .item) (z .code) (z .n) in
+    let all = finish 6 {m = rows (z .n)} {n = last} (s .ensures .0) (p .ensures .0) (row-covers _ _ _ _ _ _) in
+    (wrote-as all (ap rows (sym (add-one (z .n)))), omega (arith, p .ensures .1, s .ensures .1))
 
 pub list-short-spec : {M : Type 1} → statement M
 list-short-spec =

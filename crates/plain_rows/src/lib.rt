@@ -2,7 +2,7 @@
 ghost use Prim.Native.Nat.{_+_, _*_, _≤_};
 ghost use lib.ListN.{length};
 ghost use Rattle.text.specs.Text.{Wrote};
-ghost use Rattle.segment_rows.specs.Rows.{sliceRows};
+ghost use Rattle.plain_rows.specs.Rows.{sliceRows};
 
 // Writes a row for each of the first n segments of the numbers, four numbers a segment.
 pub fn list_plainly(

@@ -1,8 +1,8 @@
-use Rattle.segment_rows.proofs.Spoiled.{loosely}
+use Rattle.digit_rows.proofs.Spoiled.{loosely}
 use native.Mathlib.Omega.{arith}
 use borrow.Author.Needs.{needs}
-use Rattle.segment_rows.proofs.quick.put_three.Statement.{statement}
-use Rattle.segment_rows.proofs.quick.put_three.Tie as tie
+use Rattle.digit_rows.proofs.put_three.Statement.{statement}
+use Rattle.digit_rows.proofs.put_three.Tie as tie
 
 put-held-requires : tie.Need-put-held-requires
 put-held-requires c κs = search needs

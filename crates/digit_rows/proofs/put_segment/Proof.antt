@@ -1,8 +1,10 @@
-use Rattle.segment_rows.proofs.Spoiled.{exact}
+use mathlib.Core.List.{[], _∷_}
+use Rattle.text.specs.Text.{row}
+use Rattle.digit_rows.proofs.Spoiled.{exact}
 use native.Mathlib.Omega.{arith}
 use borrow.Author.Needs.{needs}
-use Rattle.segment_rows.proofs.quick.put_segment.Statement.{statement}
-use Rattle.segment_rows.proofs.quick.put_segment.Tie as tie
+use Rattle.digit_rows.proofs.put_segment.Statement.{statement}
+use Rattle.digit_rows.proofs.put_segment.Tie as tie
 
 put-short-requires : tie.Need-put-short-requires
 put-short-requires c κs = search needs
@@ -22,8 +24,9 @@ same-length-2 c = search needs
 returns-2 : tie.Need-returns-2
 returns-2 c =
     let p = c .before .before .before .before .put-row6 in
-    let h = c .before .before .before .before .before .before .before .before .pre .1 in
-    (exact 6 (p .ensures .0), (omega arith, h .3, h .4))
+    let z = c .before .before .before .before .before .before .before .before in
+    let six = row (z .args .item .number ∷ z .args .code .number ∷ z .args .s ∷ z .args .e ∷ z .args .l ∷ z .args .m ∷ []) in
+    (exact 6 {text = six} (p .ensures .0), (omega arith, z .pre .1 .3, z .pre .1 .4))
 
 pub put-segment-spec : {M : Type 1} → statement M
 put-segment-spec =

@@ -4,15 +4,23 @@ use native.Mathlib.Numerals.{add-one}
 use denote.Ref.{now}
 use lib.ListN.{length}
 use Rattle.text.proofs.Writing.{none}
-use Rattle.segment_rows.specs.Rows.{Holds, Loose, sliceRows}
-use Rattle.segment_rows.proofs.Spoiled.{exact, loosely, loose-as}
+use Rattle.digit_rows.specs.Rows.{Holds, Loose}
+use Rattle.plain_rows.specs.Rows.{sliceRow}
+use Rattle.segment_rows.specs.Rows.{sliceRows}
+use Rattle.digit_rows.proofs.Spoiled.{exact, loosely, loose-as}
 use borrow.Author.Needs.{needs}
 use native.Mathlib.Omega.{arith}
-use Rattle.segment_rows.proofs.quick.put_segments.Statement.{statement}
-use Rattle.segment_rows.proofs.quick.put_segments.Tie as tie
+use Rattle.segment_rows.proofs.put_segments.Statement.{statement}
+use Rattle.segment_rows.proofs.put_segments.Tie as tie
 
 abbrev Inv-loop : tie.InvT-loop
-Inv-loop t numbers n item code out₀ at rows₀ i₀ out rows i = (i ≤ n) × (rows .at ≤ at + 66 * i) × (length out ≡ length out₀) × Loose 6 out₀ at (sliceRows numbers (item .number) (code .number) i) out (rows .at) × Holds (rows .end) × Holds (rows .load)
+Inv-loop t numbers n item code out₀ at rows₀ i₀ out rows i =
+    (i ≤ n)
+    × (rows .at ≤ at + 66 * i)
+    × (length out ≡ length out₀)
+    × Loose 6 out₀ at (sliceRows numbers (item .number) (code .number) i) out (rows .at)
+    × Holds (rows .end)
+    × Holds (rows .load)
 
 abbrev μ-loop : tie.MeasureT-loop
 μ-loop t numbers n item code out₀ at rows₀ i₀ out rows i = n - i
@@ -75,16 +83,13 @@ loop-less c = search needs
 loop-again : tie.Need-loop-again Inv-loop μ-loop
 unfolding sliceRows
 loop-again c =
-    let z = c .before .before .before .before .before .before .before .before .before .before .before .before .args in
+    let p = c .before .before .put-segment in
     let l = c .before .before .before .before .before .before .before .before .before .loop in
-    let p = c .before .before .put-segment in (
-      omega arith,
-      omega arith,
-      p .ensures .0 .size ∙ l .inv .2,
-      loose-as (loosely 6 (l .inv .3) (p .ensures .0) (omega arith)) (ap (sliceRows (now (z .numbers)) (z .item .number) (z .code .number)) (sym (add-one (l .i)))),
-      p .ensures .1 .1,
-      p .ensures .1 .2,
-    )
+    let z = c .before .before .before .before .before .before .before .before .before .before .before .before .args in
+    let next = sliceRow (now (z .numbers)) (z .item .number) (z .code .number) (l .i) in
+    let more = loosely 6 {n = next} (l .inv .3) (p .ensures .0) (omega arith) in
+    let e = ap (sliceRows (now (z .numbers)) (z .item .number) (z .code .number)) (sym (add-one (l .i))) in
+    (omega arith, omega arith, p .ensures .0 .size ∙ l .inv .2, loose-as more e, p .ensures .1 .1, p .ensures .1 .2)
 
 same-length : tie.Need-same-length Inv-loop μ-loop
 same-length c = search needs

@@ -3,16 +3,20 @@ use mathlib.Core.Path.{_≡_, ap, sym}
 use native.Mathlib.Numerals.{add-one}
 use denote.Ref.{now}
 use lib.ListN.{length}
-use Rattle.segment_rows.specs.Rows.{sliceRows}
+use Rattle.plain_rows.specs.Rows.{sliceRow, sliceRows}
 use Rattle.text.specs.Text.{Wrote}
 use Rattle.text.proofs.Writing.{then, none, wrote-as}
 use borrow.Author.Needs.{needs}
 use native.Mathlib.Omega.{arith}
-use Rattle.segment_rows.proofs.plain.list_plainly.Statement.{statement}
-use Rattle.segment_rows.proofs.plain.list_plainly.Tie as tie
+use Rattle.plain_rows.proofs.list_plainly.Statement.{statement}
+use Rattle.plain_rows.proofs.list_plainly.Tie as tie
 
 abbrev Inv-loop : tie.InvT-loop
-Inv-loop numbers n item code out₀ at a₀ i₀ out a i = (i ≤ n) × (a ≤ at + 66 * i) × (length out ≡ length out₀) × Wrote out₀ at (sliceRows numbers item code i) out a
+Inv-loop numbers n item code out₀ at a₀ i₀ out a i =
+    (i ≤ n)
+    × (a ≤ at + 66 * i)
+    × (length out ≡ length out₀)
+    × Wrote out₀ at (sliceRows numbers item code i) out a
 
 abbrev μ-loop : tie.MeasureT-loop
 μ-loop numbers n item code out₀ at a₀ i₀ out a i = n - i
@@ -68,7 +72,13 @@ loop-less c = search needs
 
 loop-again : tie.Need-loop-again Inv-loop μ-loop
 unfolding sliceRows
-loop-again c = (omega arith, omega arith, search needs, wrote-as (then (c .before .before .before .before .before .before .before .before .before .loop .inv .3) (c .before .before .put-row6 .ensures .0)) (ap (sliceRows (now (c .before .before .before .before .before .before .before .before .before .before .before .before .args .numbers)) (c .before .before .before .before .before .before .before .before .before .before .before .before .args .item) (c .before .before .before .before .before .before .before .before .before .before .before .before .args .code)) (sym (add-one (c .before .before .before .before .before .before .before .before .before .loop .i)))))
+loop-again c =
+    let l = c .before .before .before .before .before .before .before .before .before in
+    let z = l .before .before .before .args in
+    let p = c .before .before .put-row6 in
+    let more = then {n = sliceRow (now (z .numbers)) (z .item) (z .code) (l .loop .i)} (l .loop .inv .3) (p .ensures .0) in
+    let e = ap (sliceRows (now (z .numbers)) (z .item) (z .code)) (sym (add-one (l .loop .i))) in
+    (omega arith, omega arith, search needs, wrote-as more e)
 
 same-length : tie.Need-same-length Inv-loop μ-loop
 same-length c = search needs
@@ -76,8 +86,10 @@ same-length c = search needs
 returns : tie.Need-returns Inv-loop μ-loop
 unfolding sliceRows
 returns c =
-    let e : c .before .loop .i ≡ c .before .before .before .before .args .n = omega arith in
-    (wrote-as (c .before .loop .inv .3) (ap (sliceRows (now (c .before .before .before .before .args .numbers)) (c .before .before .before .before .args .item) (c .before .before .before .before .args .code)) e), omega arith)
+    let z = c .before .before .before .before .args in
+    let l = c .before .loop in
+    let e : l .i ≡ z .n = omega arith in
+    (wrote-as (l .inv .3) (ap (sliceRows (now (z .numbers)) (z .item) (z .code)) e), omega arith)
 
 pub list-plainly-spec : {M : Type 1} → statement M
 list-plainly-spec =

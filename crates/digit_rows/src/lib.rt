@@ -1,11 +1,11 @@
-// Rows of segments from digits that are held in words. Eight bytes are written at a time, and those of them that are no text are written over next.
+// The row of a segment from digits that are held in words. Eight bytes are written at a time, and those of them that are no text are written over next.
 ghost use Prim.Native.Nat.{_+_, _*_, _≤_, _<_};
 ghost use mathlib.Core.Path.{_≡_};
 ghost use mathlib.Core.List.{[], _∷_, _++_};
 ghost use lib.ListN.{length};
 ghost use Rattle.text.specs.Text.{field, row};
 ghost use Rattle.digits.specs.Words.{IsTable};
-ghost use Rattle.segment_rows.specs.Rows.{Holds, Loose, sliceRows};
+ghost use Rattle.digit_rows.specs.Rows.{Holds, Loose};
 use digits::Digits;
 use digits::digits_of;
 use digits::long_first;
@@ -134,7 +134,7 @@ fn put_short(
 }
 
 // Writes the row of a segment.
-fn put_segment(
+pub fn put_segment(
     t: &[u16; 100],
     item: Held,
     code: Held,
@@ -158,44 +158,4 @@ fn put_segment(
     let end = rows.end;
     let load = rows.load;
     Rows { at: a, end, load }
-}
-
-// Writes a row for each of the first n segments of the numbers; up to six bytes behind them are spoiled.
-pub fn put_segments(
-    t: &[u16; 100],
-    numbers: &[u32],
-    n: usize,
-    item: Held,
-    code: Held,
-    out: &mut [u8],
-    at: usize,
-) -> usize
-    requires { ⌜ IsTable (now t) × Holds item × Holds code ⌝ }
-    requires { ⌜ 4 * n ≤ length (now numbers) ⌝ }
-    requires { ⌜ at + 66 * n ≤ length (now out) ⌝ }
-    ensures { λ r. ⌜ Loose 6 (now (out .entry)) at (sliceRows (now (numbers .entry)) (item .number) (code .number) n) (now (out .exit)) r ⌝ }
-    ensures { λ r. ⌜ r ≤ at + 66 * n ⌝ }
-{
-    let mut rows = Rows {
-        at,
-        end: item,
-        load: item,
-    };
-    let mut i = 0;
-    while i < n {
-        let j = 4 * i;
-        rows = put_segment(
-            t,
-            item,
-            code,
-            numbers[j],
-            numbers[j + 1],
-            numbers[j + 2],
-            numbers[j + 3],
-            rows,
-            out,
-        );
-        i += 1;
-    }
-    rows.at
 }

@@ -3,11 +3,11 @@ use mathlib.Core.Path.{ap}
 use mathlib.Core.List.{List, [], _∷_, _++_}
 use denote.Ref.{now}
 use Rattle.text.proofs.Writing.{byte}
-use Rattle.segment_rows.proofs.Spoiled.{word, exact, loosely, loose-as}
+use Rattle.digit_rows.proofs.Spoiled.{word, exact, loosely, loose-as}
 use native.Mathlib.Omega.{arith}
 use borrow.Author.Needs.{needs}
-use Rattle.segment_rows.proofs.quick.put_held.Statement.{statement}
-use Rattle.segment_rows.proofs.quick.put_held.Tie as tie
+use Rattle.digit_rows.proofs.put_held.Statement.{statement}
+use Rattle.digit_rows.proofs.put_held.Tie as tie
 
 put-word-requires : tie.Need-put-word-requires
 put-word-requires c κs = search needs
@@ -31,7 +31,8 @@ returns c =
     let h = c .before .before .before .before .before .before .pre .1 in
     let end = z .at + z .h .digits .len in
     let w = word (now (z .out)) (z .at) (z .h .digits .word) (z .h .digits .len) (p .last .0) (p .ensures) (h .some) (h .most) in
-    (loose-as (loosely 7 w (exact 6 (byte (p .last .0) end (z .behind))) (omega arith)) (ap (λ (l : List ℕ). l ++ (z .behind ∷ [])) (h .text)), omega arith)
+    let b = exact 6 (byte (p .last .0) end (z .behind)) in
+    (loose-as (loosely 7 w b (omega arith)) (ap (λ (l : List ℕ). l ++ (z .behind ∷ [])) (h .text)), omega arith)
 
 pub put-held-spec : {M : Type 1} → statement M
 put-held-spec =
