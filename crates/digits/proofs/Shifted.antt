@@ -53,8 +53,12 @@ length-padded zero n = refl
 length-padded (suc k) n = length-append (padded k (n / 10)) (digit n ∷ []) ∙ (ap (λ (m : ℕ). m + 1) (length-padded k (n / 10)) ∙ omega arith)
 
 -- the decimal is the padded one without its zeros
-bare-by : (t : Bool) (f n : ℕ) → ltb n 10 ≡ t → decimalIn f (n / 10) ≡ drop (suc f - length (decimalIn f (n / 10))) (padded (suc f) (n / 10))
-    → cond t ((48 + n) ∷ []) (decimalIn f (n / 10) ++ (digit n ∷ [])) ≡ drop (suc (suc f) - length (cond t ((48 + n) ∷ []) (decimalIn f (n / 10) ++ (digit n ∷ [])))) (padded (suc (suc f)) n)
+abbrev Bare : ℕ → ℕ → List ℕ → Type 0
+Bare f n ds = ds ≡ drop (suc f - length ds) (padded (suc f) n)
+
+bare-by :
+    (t : Bool) (f n : ℕ) → ltb n 10 ≡ t → Bare f (n / 10) (decimalIn f (n / 10))
+    → Bare (suc f) n (cond t ((48 + n) ∷ []) (decimalIn f (n / 10) ++ (digit n ∷ [])))
 bare-by true f n e h =
     let l : n < 10 = ltb-true n 10 e in
     let d : 48 + n ≡ digit n = omega arith in
@@ -70,7 +74,7 @@ bare-by false f n e h =
     ∙ (sym (drop-append-le (suc f - length D) P (digit n ∷ []) (omega (arith, length-padded (suc f) (n / 10))))
     ∙ ap (λ (m : ℕ). drop m (P ++ (digit n ∷ []))) (sym k))
 
-bare-in : (f n : ℕ) → decimalIn f n ≡ drop (suc f - length (decimalIn f n)) (padded (suc f) n)
+bare-in : (f n : ℕ) → Bare f n (decimalIn f n)
 bare-in zero n = refl
 bare-in (suc f) n = bare-by (ltb n 10) f n refl (bare-in f (n / 10))
 
@@ -82,7 +86,7 @@ in-eight n h = fuel 8 n (omega arith) ∙ fuel 7 n (omega arith)
 in-four : (n : ℕ) → n < 10000 → decimal n ≡ decimalIn 3 n
 in-four n h = in-eight n (omega arith) ∙ (fuel 6 n (omega arith) ∙ (fuel 5 n (omega arith) ∙ (fuel 4 n (omega arith) ∙ fuel 3 n (omega arith))))
 
-bare : (f n : ℕ) → decimal n ≡ decimalIn f n → decimal n ≡ drop (suc f - length (decimal n)) (padded (suc f) n)
+bare : (f n : ℕ) → decimal n ≡ decimalIn f n → Bare f n (decimal n)
 bare f n e = e ∙ (bare-in f n ∙ ap (λ (l : List ℕ). drop (suc f - length l) (padded (suc f) n)) (sym e))
 
 small-snoc : {ds : List ℕ} (d : ℕ) → Small ds → d < 256 → Small (ds ++ (d ∷ []))
@@ -110,9 +114,11 @@ shifted-four n len h = shifted 4 n len (bare 3 n (in-four n h))
 pub shifted-eight : (n len : ℕ) → 10000 ≤ n → n < 100000000 → len ≡ length (decimal (n / 10000)) → len ≤ 4
     → bytesOf (len + 4) (pack (padded 8 n) / 2 ^ (8 * (4 - len))) ≡ decimal n
 shifted-eight n len g h e m =
-    let l : length (decimal n) ≡ length (decimal (n / 10000)) + 4 = ap length (four-behind n g (omega arith)) ∙ length-append (decimal (n / 10000)) (fourOf n) in
+    let l : length (decimal n) ≡ length (decimal (n / 10000)) + 4 =
+    ap length (four-behind n g (omega arith)) ∙ length-append (decimal (n / 10000)) (fourOf n) in
     let k : 4 - len ≡ 8 - (len + 4) = omega arith in
-    ap (λ (j : ℕ). bytesOf (len + 4) (pack (padded 8 n) / 2 ^ (8 * j))) k ∙ shifted 8 n (len + 4) (bare 7 n (in-eight n h)) (omega arith) (omega arith)
+    ap (λ (j : ℕ). bytesOf (len + 4) (pack (padded 8 n) / 2 ^ (8 * j))) k
+    ∙ shifted 8 n (len + 4) (bare 7 n (in-eight n h)) (omega arith) (omega arith)
 
 -- how many digits: one, and one more for each power of ten that is reached
 abbrev overs : ℕ → ℕ → ℕ

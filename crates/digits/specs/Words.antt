@@ -34,8 +34,8 @@ pub record Means (n : ℕ) (d : Digits) : Type 0 where
   pub most : d .len ≤ 8
 
 -- the table of pairs
-abbrev pub IsTable : List ℕ → Type 0
-IsTable t = (i : ℕ) → i < 100 → getD t i 0 ≡ pairWord i
+pub record IsTable (t : List ℕ) : Type 0 where
+  pub each : (i : ℕ) → i < 100 → getD t i 0 ≡ pairWord i
 
 -- 1 where n has more digits than the limit allows
 unfoldable pub over : ℕ → ℕ → ℕ

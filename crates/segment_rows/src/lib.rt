@@ -73,16 +73,16 @@ fn list_short(numbers: &[u32], n: usize, item: u32, code: u32, out: &mut [u8], a
         digits: code_digits,
     };
     let a = put_segments(&t, numbers, n, items, codes, out, at);
-    let j = 4 * n;
+    let last = 4 * n;
     text::put_row6(
         out,
         a,
         item,
         code,
-        numbers[j],
-        numbers[j + 1],
-        numbers[j + 2],
-        numbers[j + 3],
+        numbers[last],
+        numbers[last + 1],
+        numbers[last + 2],
+        numbers[last + 3],
     )
 }
 

@@ -43,12 +43,17 @@ add-t9 c = search needs
 returns : tie.Need-returns
 returns c =
     let x = c .before .before .before .args .x in
+    let p = c .before .before .before .pre in
     let h = c .before .before .four in
     let l = c .before .four2 in
     let n = c .count in
-    let e = ap (λ (w : ℕ). w + 4294967296 * l .result) (h .ensures .0) ∙ (ap (λ (w : ℕ). pack (padded 4 (x / 10000)) + 4294967296 * w) (l .ensures .0) ∙ eight-word x) in
+    let len = n .result in
+    let high = ap (λ (w : ℕ). w + 4294967296 * l .result) (h .ensures .0) in
+    let low = ap (λ (w : ℕ). pack (padded 4 (x / 10000)) + 4294967296 * w) (l .ensures .0) in
     record {
-      text = ap (λ (w : ℕ). bytesOf (n .result + 4) (w / 2 ^ (8 * (4 - n .result)))) e ∙ shifted-eight x (n .result) (c .before .before .before .pre .0) (c .before .before .before .pre .1) (n .ensures .0) (n .ensures .1 .1);
+      text =
+          ap (λ (w : ℕ). bytesOf (len + 4) (w / 2 ^ (8 * (4 - len)))) (high ∙ (low ∙ eight-word x))
+          ∙ shifted-eight x len (p .0) (p .1) (n .ensures .0) (n .ensures .1 .1);
       some = omega arith;
       most = omega arith;
     }

@@ -10,11 +10,11 @@ element-copy-out-result : tie.Need-element-copy-out-result
 element-copy-out-result c = search needs
 
 cast-result : tie.Need-cast-result
-cast-result c = omega (arith, c .before .pre .1 (c .before .args .n) (c .before .pre .0))
+cast-result c = omega (arith, c .before .pre .1 .each (c .before .args .n) (c .before .pre .0))
 
 returns : tie.Need-returns
 returns c =
-    let e = c .before .pre .1 (c .before .args .n) (c .before .pre .0) in
+    let e = c .before .pre .1 .each (c .before .args .n) (c .before .pre .0) in
     (e, omega (arith, e))
 
 pub pair-spec : {M : Type 1} → statement M

@@ -26,8 +26,11 @@ returns : tie.Need-returns
 returns c =
     let x = c .before .before .args .x in
     let n = c .count in
+    let len = n .result in
     record {
-      text = ap (λ (w : ℕ). bytesOf (n .result) (w / 2 ^ (8 * (4 - n .result)))) (c .before .four .ensures .0) ∙ shifted-four x (n .result) (c .before .before .pre .0) (n .ensures .0) (n .ensures .1 .1);
+      text =
+          ap (λ (w : ℕ). bytesOf len (w / 2 ^ (8 * (4 - len)))) (c .before .four .ensures .0)
+          ∙ shifted-four x len (c .before .before .pre .0) (n .ensures .0) (n .ensures .1 .1);
       some = n .ensures .1 .0;
       most = omega arith;
     }

@@ -23,8 +23,8 @@ digits-of-requires-2 c κs = search needs
 put-segments-requires : tie.Need-put-segments-requires
 put-segments-requires c κs = search needs
 
-mul-j : tie.Need-mul-j
-mul-j c = search needs
+mul-last : tie.Need-mul-last
+mul-last c = search needs
 
 mul-put-row6 : tie.Need-mul-put-row6
 mul-put-row6 c = search needs
@@ -85,7 +85,7 @@ list-short-spec =
     digits-of-requires
     digits-of-requires-2
     put-segments-requires
-    mul-j
+    mul-last
     mul-put-row6
     shared-slice-read-put-row6
     add-put-row6
