@@ -1,4 +1,4 @@
--- A ramp made of five numbers is the stretch's, where its loads are the stretch's break loads.
+-- A ramp whose loads are a stretch's break loads is the stretch's, and the reading in it.
 use Prim.Native.Nat.{ℕ, _+_, _-_, _*_, _≤_}
 use mathlib.Core.Path.{_≡_, sym, _∙_}
 use Rattle.rounding.specs.Fraction.{over}
@@ -8,25 +8,40 @@ use Rattle.rounding.proofs.Rounding.{up-nothing}
 use Rattle.rounding.proofs.Ramps.{break-alone, reading-start, reading-end, reading-most}
 use native.Mathlib.Nat.{mul-le-mul}
 use native.Mathlib.Omega.{arith}
-use Rattle.standard.specs.Stretch.{noLoad}
-use Rattle.standard.specs.Units.{parts, largestPosition, largestLoad}
+use Rattle.standard.specs.Stretch.{Stretch, even, ramp, noLoad}
+use Rattle.standard.specs.Units.{parts, largestPosition, largestPart, largestLoad}
 use Rattle.ramps.specs.Ramps.{rampOf, RampIn, readRamp}
 use Rattle.ramps.specs.declared.Ramp.{Ramp}
 
 abbrev pub made : ℕ → ℕ → ℕ → ℕ → ℕ → Ramp
 made x k f a b = record { extent = x; skip = k; full = f; from = a; to = b }
 
-pub made-is :
-    (x k f a b : ℕ) (from to : Load) → a ≡ breakLoad parts from → b ≡ breakLoad parts to
-    → made x k f a b ≡ rampOf (record { extent = x; skip = k; full = f; from = from; to = to })
+-- what is owed of a ramp: that it is a stretch's, and its bounds
+abbrev pub Made : Ramp → Stretch → Type 0
+Made r s = (r ≡ rampOf s) × RampIn r
+
+-- what callees say of a load of one part
+abbrev pub Part : ℕ → Load → Type 0
+Part a l = (a ≡ breakLoad parts l) × (a ≤ largestPart)
+
+pub no-load : Part 0 noLoad
+no-load = (sym (break-alone parts (over 0 1) ∙ up-nothing parts), omega arith)
+
+-- a ramp that may be cut, a whole one, and one of one load
+pub cut-ramp :
+    (x k f a b : ℕ) (from to : Load) → a ≡ breakLoad parts from → b ≡ breakLoad parts to → 1 ≤ x → k + x ≤ f → f ≤ largestPosition
+    → a ≤ largestLoad → b ≤ largestLoad → Made (made x k f a b) (record { extent = x; skip = k; full = f; from = from; to = to })
 unfolding rampOf
-made-is x k f a b from to p q = rw (p, q)
+cut-ramp x k f a b from to p q some inside full s t = (rw (p, q), record { some = some; inside = inside; full = full; from = s; to = t })
 
-pub made-in : (x k f a b : ℕ) → 1 ≤ x → k + x ≤ f → f ≤ largestPosition → a ≤ largestLoad → b ≤ largestLoad → RampIn (made x k f a b)
-made-in x k f a b p q r s t = record { some = p; inside = q; full = r; from = s; to = t }
+pub whole-ramp :
+    (x a b : ℕ) (from to : Load) (r : Ramp) → r ≡ made x 0 x a b → Part a from → Part b to → 1 ≤ x → x ≤ largestPosition
+    → Made r (ramp x from to)
+whole-ramp x a b from to r e p q some most =
+    rw e (cut-ramp x 0 x a b from to (p .0) (q .0) some (omega arith) most (omega (arith, p .1)) (omega (arith, q .1)))
 
-pub no-load : 0 ≡ breakLoad parts noLoad
-no-load = sym (break-alone parts (over 0 1) ∙ up-nothing parts)
+pub even-ramp : (x a : ℕ) (l : Load) (r : Ramp) → r ≡ made x 0 x a a → Part a l → 1 ≤ x → x ≤ largestPosition → Made r (even x l)
+even-ramp x a l r e p some most = whole-ramp x a a l l r e p p some most
 
 -- the two products of a reading, and that a reading is no larger than its break loads may be
 pub record Weighed (r : Ramp) (x : ℕ) : Type 0 where
@@ -41,7 +56,9 @@ weighed r x h p =
     record {
       from = mul-le-mul (h .from) left;
       to = mul-le-mul (h .to) along;
-      most = reading-most (r .from) (r .to) (r .full) (omega (arith, h .some, h .inside)) (r .skip + x) largestLoad (omega (arith, h .inside)) (h .from) (h .to);
+      most =
+          reading-most (r .from) (r .to) (r .full) (omega (arith, h .some, h .inside)) (r .skip + x) largestLoad
+          (omega (arith, h .inside)) (h .from) (h .to);
     }
 
 -- at an end of the uncut ramp its break load is read

@@ -13,14 +13,17 @@ use Rattle.standard.proofs.Demand.{start-on-roof, end-in-range}
 use Rattle.ramps.specs.Ramps.{rampOf}
 use Rattle.ramps.specs.declared.Ramp.{Ramp}
 
-pub next-start : (S : ℕ → Stretch) (i start : ℕ) (r : Ramp) → start ≡ startOf S i → r ≡ rampOf (S i) → start + r .extent ≡ startOf S (suc i)
+pub next-start :
+    (S : ℕ → Stretch) (i start : ℕ) (r : Ramp) → start ≡ startOf S i → r ≡ rampOf (S i) → start + r .extent ≡ startOf S (suc i)
 unfolding startOf rampOf
 next-start S i start r es er = rw (es, er)
 
 module _ (national : National) (site : Site) (roof : Roof) (code : ℕ) (h : FiguresIn national site roof) where
-  pub start-most : (i start : ℕ) → i ≤ count national roof code → start ≡ startOf (stretch national site roof code) i → start ≤ largestPosition
+  pub start-most :
+      (i start : ℕ) → i ≤ count national roof code → start ≡ startOf (stretch national site roof code) i → start ≤ largestPosition
   start-most i start p e =
-      omega (arith, start-on-roof national site roof code (h .national) (h .site) (h .roof) i p, end-in-range national site roof code (h .national) (h .site) (h .roof))
+      let on-roof = start-on-roof national site roof code (h .national) (h .site) (h .roof) i p in
+      omega (arith, end-in-range national site roof code (h .national) (h .site) (h .roof))
 
   pub next-most :
       (i start : ℕ) (r : Ramp) → i < count national roof code → start ≡ startOf (stretch national site roof code) i

@@ -12,7 +12,7 @@ count-in-requires c κs = let p = c .before .pre in (p .national, shape-in _ _ (
 
 returns : tie.Need-returns
 unfolding count
-returns c = (rw (c .before .base-code .ensures) at (c .count-in .ensures .0), c .count-in .ensures .1)
+returns c = rw (c .before .base-code .ensures) at (c .count-in .ensures)
 
 pub count-spec : {M : Type 1} → statement M
 count-spec = tie.close (tie.spec base-code-requires count-in-requires returns)

@@ -17,12 +17,16 @@ cast-ramp-in c = search needs
 ramp-in-requires : tie.Need-ramp-in-requires
 unfolding count
 ramp-in-requires c κs =
-    let p = c .before .before .before .pre in
-    (p .0 .national, shape-in _ _ (p .0 .roof), grounded _ _ (p .0 .site) (c .before .factor .ensures .1), rw (c .before .before .base-code .ensures) (p .1))
+    let p = c .before .before .before .pre in (
+      p .0 .national,
+      shape-in _ _ (p .0 .roof),
+      grounded _ _ (p .0 .site) (c .before .factor .ensures .1),
+      rw (c .before .before .base-code .ensures) (p .1),
+    )
 
 returns : tie.Need-returns
 unfolding stretch
-returns c = (rw (c .before .before .before .base-code .ensures, c .before .before .factor .ensures .0) at (c .ramp-in .ensures .0), c .ramp-in .ensures .1)
+returns c = rw (c .before .before .before .base-code .ensures, c .before .before .factor .ensures .0) at (c .ramp-in .ensures)
 
 pub ramp-at-spec : {M : Type 1} → statement M
 ramp-at-spec =

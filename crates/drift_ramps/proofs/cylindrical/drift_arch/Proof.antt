@@ -1,12 +1,27 @@
 use Rattle.standard.proofs.Cylindrical.{drift-bare, bare-ends}
-use Rattle.ramps.proofs.Stretches.{made-is, made-in, no-load}
-use Rattle.ramps.specs.Ramps.{rampOf}
+use Rattle.ramps.proofs.Stretches.{whole-ramp, even-ramp, no-load}
+use Rattle.rounding.specs.Load.{Load}
 use Rattle.standard.specs.Cylindrical.{archDrift, halfLoad, peakLoad}
-use mathlib.Core.Path.{_∙_, ap, sym}
+use Rattle.standard.specs.Stretch.{noLoad}
+use Rattle.standard.specs.Units.{largestPosition}
+use Prim.Native.Nat.{_≤_}
 use native.Mathlib.Omega.{arith}
 use borrow.Author.Needs.{needs}
 use Rattle.drift_ramps.proofs.cylindrical.drift_arch.Statement.{statement}
 use Rattle.drift_ramps.proofs.cylindrical.drift_arch.Tie as tie
+
+module _ (c : tie.Start) where
+  abbrev half : Load
+  half = halfLoad (c .args .national) (c .args .factor) (c .args .sk) (c .args .rise) (c .args .span)
+
+  abbrev peak : Load
+  peak = peakLoad (c .args .national) (c .args .factor) (c .args .sk) (c .args .rise) (c .args .span)
+
+  some : 1 ≤ c .args .ls
+  some = c .pre .3 .low
+
+  most : c .args .ls ≤ largestPosition
+  most = omega (arith, c .pre .3 .high, c .pre .2 .high)
 
 arch-load-requires : tie.Need-arch-load-requires
 arch-load-requires c κs = search needs
@@ -43,33 +58,39 @@ even-requires c κs = search needs
 
 returns : tie.Need-returns
 unfolding archDrift halfLoad peakLoad
-returns c = let p = c .before .before .before .pre in
-    let l = c .before .arch-load .ensures in
-    (rw (c .before .before .match .keys1) (c .whole .ensures ∙ made-is _ _ _ _ _ _ _ no-load (l .0)), rw (c .whole .ensures) (made-in _ _ _ _ _ (omega (arith, p .3 .low)) (omega arith) (omega (arith, p .3 .high, p .2 .high)) (omega arith) (omega (arith, l .1))))
+returns c =
+    let s = c .before .before .before in
+    rw (c .before .before .match .keys1)
+    (whole-ramp (s .args .ls) 0 _ noLoad (half s) _ (c .whole .ensures) no-load (c .before .arch-load .ensures) (some s) (most s))
 
 returns-2 : tie.Need-returns-2
 unfolding archDrift halfLoad peakLoad
-returns-2 c = let p = c .before .before .before .pre in
-    let l = c .before .arch-load2 .ensures in
-    (rw (c .before .before .match .keys2) (c .whole2 .ensures ∙ made-is _ _ _ _ _ _ _ (l .0) no-load), rw (c .whole2 .ensures) (made-in _ _ _ _ _ (omega (arith, p .3 .low)) (omega arith) (omega (arith, p .3 .high, p .2 .high)) (omega (arith, l .1)) (omega arith)))
+returns-2 c =
+    let s = c .before .before .before in
+    rw (c .before .before .match .keys2)
+    (whole-ramp (s .args .ls) _ 0 (half s) noLoad _ (c .whole2 .ensures) (c .before .arch-load2 .ensures) no-load (some s) (most s))
 
 returns-3 : tie.Need-returns-3
 unfolding archDrift halfLoad peakLoad
-returns-3 c = let p = c .before .before .before .pre in
-    let l = c .before .arch-load3 .ensures in
-    (rw (c .before .before .match .keys3) (c .whole3 .ensures ∙ made-is _ _ _ _ _ _ _ no-load (l .0)), rw (c .whole3 .ensures) (made-in _ _ _ _ _ (omega (arith, p .3 .low)) (omega arith) (omega (arith, p .3 .high, p .2 .high)) (omega arith) (omega (arith, l .1))))
+returns-3 c =
+    let s = c .before .before .before in
+    rw (c .before .before .match .keys3)
+    (whole-ramp (s .args .ls) 0 _ noLoad (peak s) _ (c .whole3 .ensures) no-load (c .before .arch-load3 .ensures) (some s) (most s))
 
 returns-4 : tie.Need-returns-4
 unfolding archDrift halfLoad peakLoad
-returns-4 c = let p = c .before .before .before .pre in
-    let l = c .before .arch-load4 .ensures in
-    (rw (c .before .before .match .keys4) (c .whole4 .ensures ∙ made-is _ _ _ _ _ _ _ (l .0) no-load), rw (c .whole4 .ensures) (made-in _ _ _ _ _ (omega (arith, p .3 .low)) (omega arith) (omega (arith, p .3 .high, p .2 .high)) (omega (arith, l .1)) (omega arith)))
+returns-4 c =
+    let s = c .before .before .before in
+    rw (c .before .before .match .keys4)
+    (whole-ramp (s .args .ls) _ 0 (peak s) noLoad _ (c .whole4 .ensures) (c .before .arch-load4 .ensures) no-load (some s) (most s))
 
 returns-5 : tie.Need-returns-5
-returns-5 c = let p = c .before .before .pre in
+returns-5 c =
+    let p = c .before .before .pre in
     let m = c .before .match .rest in
     let short = bare-ends _ _ _ (p .4) (p .5) (m .0 .0 .0 .1) (m .0 .0 .1) (m .0 .1) (m .1) in
-    (c .even .ensures ∙ (made-is _ _ _ _ _ _ _ no-load no-load ∙ ap rampOf (sym (drift-bare _ _ _ _ _ (m .0 .0 .0 .1) (m .0 .0 .1) (m .0 .1) (m .1)))), rw (c .even .ensures) (made-in _ _ _ _ _ (omega (arith, short)) (omega arith) (omega (arith, p .2 .high)) (omega arith) (omega arith)))
+    rw (drift-bare _ _ _ _ _ (m .0 .0 .0 .1) (m .0 .0 .1) (m .0 .1) (m .1))
+    (even-ramp _ _ _ _ (c .even .ensures) no-load (omega (arith, short)) (omega (arith, p .2 .high)))
 
 pub drift-arch-spec : {M : Type 1} → statement M
 drift-arch-spec =

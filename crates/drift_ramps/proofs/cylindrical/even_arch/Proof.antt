@@ -1,8 +1,6 @@
 use Rattle.standard.proofs.Cylindrical.{even-bare}
-use Rattle.ramps.proofs.Stretches.{made-is, made-in, no-load}
-use Rattle.ramps.specs.Ramps.{rampOf}
+use Rattle.ramps.proofs.Stretches.{even-ramp, no-load}
 use Rattle.standard.specs.Cylindrical.{archEven}
-use mathlib.Core.Path.{_∙_, ap, sym}
 use native.Mathlib.Omega.{arith}
 use borrow.Author.Needs.{needs}
 use Rattle.drift_ramps.proofs.cylindrical.even_arch.Statement.{statement}
@@ -19,9 +17,10 @@ even-requires c κs = search needs
 
 returns : tie.Need-returns
 unfolding archEven
-returns c = let p = c .before .before .before .pre in
-    let l = c .before .eight-tenths-load .ensures in
-    (rw (c .before .before .if1 .taken) (c .even .ensures ∙ made-is _ _ _ _ _ _ _ (l .0) (l .0)), rw (c .even .ensures) (made-in _ _ _ _ _ (omega (arith, p .0 .low)) (omega arith) (omega (arith, p .0 .high, p .1)) (omega (arith, l .1)) (omega (arith, l .1))))
+returns c =
+    let p = c .before .before .before .pre in
+    rw (c .before .before .if1 .taken)
+    (even-ramp _ _ _ _ (c .even .ensures) (c .before .eight-tenths-load .ensures) (omega (arith, p .0 .low)) (omega (arith, p .0 .high, p .1)))
 
 sub-even : tie.Need-sub-even
 sub-even c = search needs
@@ -33,8 +32,10 @@ even-requires-2 : tie.Need-even-requires-2
 even-requires-2 c κs = search needs
 
 returns-2 : tie.Need-returns-2
-returns-2 c = let p = c .before .before .pre in
-    (c .even2 .ensures ∙ (made-is _ _ _ _ _ _ _ no-load no-load ∙ ap rampOf (sym (even-bare _ _ _ _ _ (c .before .if1 .left)))), rw (c .even2 .ensures) (made-in _ _ _ _ _ (omega (arith, p .2 (c .before .if1 .left))) (omega arith) (omega (arith, p .1)) (omega arith) (omega arith)))
+returns-2 c =
+    let p = c .before .before .pre in
+    let bare = c .before .if1 .left in
+    rw (even-bare _ _ _ _ _ bare) (even-ramp _ _ _ _ (c .even2 .ensures) no-load (omega (arith, p .2 bare)) (omega (arith, p .1)))
 
 pub even-arch-spec : {M : Type 1} → statement M
 even-arch-spec =

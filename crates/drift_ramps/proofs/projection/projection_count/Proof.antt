@@ -21,7 +21,10 @@ add-result-2 c = search needs
 
 returns : tie.Need-returns
 unfolding projectionCount
-returns c = (rw (c .before .one-past .ensures .0, c .one-past2 .ensures .0, c .before .before .projection-length .ensures .0), omega (arith, c .before .one-past .ensures .1, c .one-past2 .ensures .1))
+returns c =
+    let left = c .before .one-past .ensures in
+    let right = c .one-past2 .ensures in
+    (rw (left .0, right .0, c .before .before .projection-length .ensures .0), omega (arith, left .1, right .1))
 
 pub projection-count-spec : {M : Type 1} → statement M
 projection-count-spec =

@@ -18,7 +18,7 @@ row-ramp-requires c κs = let p = c .before .before .pre in
 
 returns : tie.Need-returns
 unfolding projection
-returns c = (rw (← c .before .before .projection-length .ensures .0, ← c .before .row-index .ensures) (c .row-ramp .ensures .0), c .row-ramp .ensures .1)
+returns c = rw (← c .before .before .projection-length .ensures .0, ← c .before .row-index .ensures) (c .row-ramp .ensures)
 
 pub projection-ramp-spec : {M : Type 1} → statement M
 projection-ramp-spec =

@@ -1,9 +1,7 @@
 use Rattle.standard.proofs.Projection.{row-last}
-use Rattle.ramps.proofs.Stretches.{made-is, made-in}
-use Rattle.ramps.specs.Ramps.{rampOf}
+use Rattle.ramps.proofs.Stretches.{cut-ramp, even-ramp}
 use Rattle.standard.specs.Projection.{projectionRow}
 use Prim.Native.Nat.{_<_}
-use mathlib.Core.Path.{_∙_, ap, sym}
 use native.Mathlib.Omega.{arith}
 use borrow.Author.Needs.{needs}
 use Rattle.drift_ramps.proofs.projection.row_ramp.Statement.{statement}
@@ -68,32 +66,44 @@ even-requires-2 c κs = search needs
 
 returns : tie.Need-returns
 unfolding projectionRow
-returns c = let p = c .before .before .before .pre in
+returns c =
+    let p = c .before .before .before .pre in
     let l = c .before .before .eight-tenths-load .ensures in
-    (rw (c .before .match .keys1) (c .even .ensures ∙ made-is _ _ _ _ _ _ _ (l .0) (l .0)), rw (c .even .ensures) (made-in _ _ _ _ _ (omega (arith, p .3 (c .before .match .keys1))) (omega arith) (omega (arith, p .0 .left .high)) (omega (arith, l .1)) (omega (arith, l .1))))
+    let first = c .before .match .keys1 in
+    rw first (even-ramp _ _ _ _ (c .even .ensures) l (omega (arith, p .3 first)) (omega (arith, p .0 .left .high)))
 
 returns-2 : tie.Need-returns-2
 unfolding projectionRow
-returns-2 c = let p = c .before .before .before .before .before .pre in
-    let l = c .before .before .before .before .eight-tenths-load .ensures in
+returns-2 c =
+    let k = c .before .before .before in
+    let p = k .before .before .pre in
+    let l = k .before .eight-tenths-load .ensures in
     let o = c .projection-load .ensures in
     let m = c .before .before .least .ensures in
     let s = c .before .less .ensures in
-    (rw (c .before .before .before .match .keys2, m, s) (made-is _ _ _ _ _ _ _ (l .0) (o .0)), made-in _ _ _ _ _ (omega (arith, m, p .0 .left .low, p .2 .low)) (omega (arith, m, s)) (omega (arith, p .2 .high)) (omega (arith, l .1)) (omega (arith, o .1)))
+    rw (k .match .keys2, ← m, ← s)
+    (cut-ramp _ _ _ _ _ _ _ (l .0) (o .0) (omega (arith, m, p .0 .left .low, p .2 .low)) (omega (arith, m, s)) (omega (arith, p .2 .high))
+    (omega (arith, l .1)) (omega (arith, o .1)))
 
 returns-3 : tie.Need-returns-3
 unfolding projectionRow
-returns-3 c = let p = c .before .before .before .before .pre in
-    let l = c .before .before .before .eight-tenths-load .ensures in
+returns-3 c =
+    let k = c .before .before in
+    let p = k .before .before .pre in
+    let l = k .before .eight-tenths-load .ensures in
     let o = c .projection-load2 .ensures in
     let m = c .before .least2 .ensures in
-    (rw (c .before .before .match .keys3, m) (made-is _ _ _ _ _ _ _ (o .0) (l .0)), made-in _ _ _ _ _ (omega (arith, m, p .0 .right .low, p .2 .low)) (omega (arith, m)) (omega (arith, p .2 .high)) (omega (arith, o .1)) (omega (arith, l .1)))
+    rw (k .match .keys3, ← m)
+    (cut-ramp _ _ _ _ _ _ _ (o .0) (l .0) (omega (arith, m, p .0 .right .low, p .2 .low)) (omega (arith, m)) (omega (arith, p .2 .high))
+    (omega (arith, o .1)) (omega (arith, l .1)))
 
 returns-4 : tie.Need-returns-4
-returns-4 c = let p = c .before .before .before .pre in
+returns-4 c =
+    let p = c .before .before .before .pre in
     let l = c .before .before .eight-tenths-load .ensures in
     let m = c .before .match .rest in
-    (c .even2 .ensures ∙ (made-is _ _ _ _ _ _ _ (l .0) (l .0) ∙ ap rampOf (sym (row-last _ _ _ _ _ _ (m .0 .0 .1) (m .0 .1) (m .1)))), rw (c .even2 .ensures) (made-in _ _ _ _ _ (omega (arith, past (c .before))) (omega arith) (omega (arith, p .0 .right .high)) (omega (arith, l .1)) (omega (arith, l .1))))
+    rw (row-last _ _ _ _ _ _ (m .0 .0 .1) (m .0 .1) (m .1))
+    (even-ramp _ _ _ _ (c .even2 .ensures) l (omega (arith, past (c .before))) (omega (arith, p .0 .right .high)))
 
 pub row-ramp-spec : {M : Type 1} → statement M
 row-ramp-spec =

@@ -42,7 +42,9 @@ cast-abutting-count-2 : tie.Need-cast-abutting-count-2
 cast-abutting-count-2 c = search needs
 
 abutting-count-requires : tie.Need-abutting-count-requires
-abutting-count-requires c κs = let p = c .before .before .before .pre in (p .0, known-in (c .before .shape3 .given .1) _ (p .1) .step .high)
+abutting-count-requires c κs =
+    let p = c .before .before .before .pre in
+    (p .0, known-in (c .before .shape3 .given .1) _ (p .1) .step .high)
 
 enum-known-shape-4 : tie.Need-enum-known-shape-4
 enum-known-shape-4 c = search needs
@@ -69,19 +71,21 @@ returns-2 c = (rw (c .enum-told2 .given .1), omega arith)
 
 returns-3 : tie.Need-returns-3
 unfolding countIn
-returns-3 c = (rw (c .before .shape .given .1), omega (arith, known-in (c .before .shape .given .1) _ (c .before .before .before .pre .1) .count .high))
+returns-3 c =
+    let e = c .before .shape .given .1 in
+    (rw e, omega (arith, known-in e _ (c .before .before .before .pre .1) .count .high))
 
 returns-4 : tie.Need-returns-4
 unfolding countIn
-returns-4 c = (rw (c .before .before .shape2 .given .1) (c .cylindrical-count .ensures .0), c .cylindrical-count .ensures .1)
+returns-4 c = rw (c .before .before .shape2 .given .1) (c .cylindrical-count .ensures)
 
 returns-5 : tie.Need-returns-5
 unfolding countIn
-returns-5 c = (rw (c .before .before .shape3 .given .1) (c .abutting-count .ensures .0), c .abutting-count .ensures .1)
+returns-5 c = rw (c .before .before .shape3 .given .1) (c .abutting-count .ensures)
 
 returns-6 : tie.Need-returns-6
 unfolding countIn
-returns-6 c = (rw (c .before .before .shape4 .given .1) (c .projection-count .ensures .0), c .projection-count .ensures .1)
+returns-6 c = rw (c .before .before .shape4 .given .1) (c .projection-count .ensures)
 
 pub count-in-spec : {M : Type 1} → statement M
 count-in-spec =

@@ -9,13 +9,18 @@ enum-known-shape : tie.Need-enum-known-shape
 enum-known-shape c = search needs
 
 slope-ramp-requires : tie.Need-slope-ramp-requires
-slope-ramp-requires c κs = let p = c .before .before .before .pre in let m = known-in (c .before .shape .given .1) _ (p .1) in (m .slope, m .guard, p .2)
+slope-ramp-requires c κs =
+    let p = c .before .before .before .pre in
+    let m = known-in (c .before .shape .given .1) _ (p .1) in
+    (m .slope, m .guard, p .2)
 
 enum-known-shape-2 : tie.Need-enum-known-shape-2
 enum-known-shape-2 c = search needs
 
 pitched-ramp-requires : tie.Need-pitched-ramp-requires
-pitched-ramp-requires c κs = let p = c .before .before .before .pre in (known-in (c .before .shape2 .given .1) _ (p .1), p .2)
+pitched-ramp-requires c κs =
+    let p = c .before .before .before .pre in
+    (known-in (c .before .shape2 .given .1) _ (p .1), p .2)
 
 enum-known-shape-3 : tie.Need-enum-known-shape-3
 enum-known-shape-3 c = search needs
@@ -25,9 +30,11 @@ cast-multi-span-ramp c = search needs
 
 multi-span-ramp-requires : tie.Need-multi-span-ramp-requires
 unfolding countIn
-multi-span-ramp-requires c κs = let p = c .before .before .before .pre in
-    let m = known-in (c .before .shape3 .given .1) _ (p .1) in
-    let lt = known-index (c .before .shape3 .given .1) _ _ _ (p .3) in
+multi-span-ramp-requires c κs =
+    let p = c .before .before .before .pre in
+    let e = c .before .shape3 .given .1 in
+    let m = known-in e _ (p .1) in
+    let lt = known-index e _ _ _ (p .3) in
     (p .2, m .count .high, lt, m .slopes _ lt)
 
 enum-known-shape-4 : tie.Need-enum-known-shape-4
@@ -41,7 +48,10 @@ cast-cylindrical-ramp-2 c = search needs
 
 cylindrical-ramp-requires : tie.Need-cylindrical-ramp-requires
 unfolding countIn
-cylindrical-ramp-requires c κs = let p = c .before .before .before .pre in (p .0, known-in (c .before .shape4 .given .1) _ (p .1), known-index (c .before .shape4 .given .1) _ _ _ (p .3), p .2)
+cylindrical-ramp-requires c κs =
+    let p = c .before .before .before .pre in
+    let e = c .before .shape4 .given .1 in
+    (p .0, known-in e _ (p .1), known-index e _ _ _ (p .3), p .2)
 
 enum-known-shape-5 : tie.Need-enum-known-shape-5
 enum-known-shape-5 c = search needs
@@ -57,7 +67,10 @@ cast-abutting-ramp-3 c = search needs
 
 abutting-ramp-requires : tie.Need-abutting-ramp-requires
 unfolding countIn
-abutting-ramp-requires c κs = let p = c .before .before .before .pre in (p .0, known-in (c .before .shape5 .given .1) _ (p .1), known-index (c .before .shape5 .given .1) _ _ _ (p .3), p .2)
+abutting-ramp-requires c κs =
+    let p = c .before .before .before .pre in
+    let e = c .before .shape5 .given .1 in
+    (p .0, known-in e _ (p .1), known-index e _ _ _ (p .3), p .2)
 
 enum-known-shape-6 : tie.Need-enum-known-shape-6
 enum-known-shape-6 c = search needs
@@ -73,31 +86,34 @@ cast-projection-ramp-3 c = search needs
 
 projection-ramp-requires : tie.Need-projection-ramp-requires
 unfolding countIn
-projection-ramp-requires c κs = let p = c .before .before .before .pre in (known-in (c .before .shape6 .given .1) _ (p .1), known-index (c .before .shape6 .given .1) _ _ _ (p .3), p .2)
+projection-ramp-requires c κs =
+    let p = c .before .before .before .pre in
+    let e = c .before .shape6 .given .1 in
+    (known-in e _ (p .1), known-index e _ _ _ (p .3), p .2)
 
 returns : tie.Need-returns
 unfolding stretchIn monopitch
-returns c = (rw (c .before .before .shape .given .1) (c .slope-ramp .ensures .0), c .slope-ramp .ensures .1)
+returns c = rw (c .before .before .shape .given .1) (c .slope-ramp .ensures)
 
 returns-2 : tie.Need-returns-2
 unfolding stretchIn
-returns-2 c = (rw (c .before .before .shape2 .given .1) (c .pitched-ramp .ensures .0), c .pitched-ramp .ensures .1)
+returns-2 c = rw (c .before .before .shape2 .given .1) (c .pitched-ramp .ensures)
 
 returns-3 : tie.Need-returns-3
 unfolding stretchIn
-returns-3 c = (rw (c .before .before .shape3 .given .1) (c .multi-span-ramp .ensures .0), c .multi-span-ramp .ensures .1)
+returns-3 c = rw (c .before .before .shape3 .given .1) (c .multi-span-ramp .ensures)
 
 returns-4 : tie.Need-returns-4
 unfolding stretchIn
-returns-4 c = (rw (c .before .before .shape4 .given .1) (c .cylindrical-ramp .ensures .0), c .cylindrical-ramp .ensures .1)
+returns-4 c = rw (c .before .before .shape4 .given .1) (c .cylindrical-ramp .ensures)
 
 returns-5 : tie.Need-returns-5
 unfolding stretchIn
-returns-5 c = (rw (c .before .before .shape5 .given .1) (c .abutting-ramp .ensures .0), c .abutting-ramp .ensures .1)
+returns-5 c = rw (c .before .before .shape5 .given .1) (c .abutting-ramp .ensures)
 
 returns-6 : tie.Need-returns-6
 unfolding stretchIn
-returns-6 c = (rw (c .before .before .shape6 .given .1) (c .projection-ramp .ensures .0), c .projection-ramp .ensures .1)
+returns-6 c = rw (c .before .before .shape6 .given .1) (c .projection-ramp .ensures)
 
 pub ramp-in-spec : {M : Type 1} → statement M
 ramp-in-spec =

@@ -1,5 +1,8 @@
-use Rattle.ramps.proofs.Stretches.{made-is, made-in}
-use mathlib.Core.Path.{_∙_}
+use Rattle.ramps.proofs.Stretches.{even-ramp}
+use Prim.Native.Nat.{_*_}
+use Rattle.standard.specs.Coefficients.{slopeMu}
+use Rattle.standard.specs.Pitched.{halved}
+use Rattle.standard.specs.Stretch.{loadAlone}
 use native.Mathlib.Omega.{arith}
 use borrow.Author.Needs.{needs}
 use Rattle.slope_ramps.proofs.monopitch.slope_ramp.Statement.{statement}
@@ -18,9 +21,12 @@ even-requires : tie.Need-even-requires
 even-requires c κs = search needs
 
 returns : tie.Need-returns
-returns c = let l = c .before .before .slope-load .ensures in
+returns c =
+    let a = c .before .before .before .args in
     let w = c .before .before .before .pre .0 .width in
-    (c .even .ensures ∙ made-is _ _ _ _ _ _ _ (l .0) (l .0), rw (c .even .ensures) (made-in _ _ _ _ _ (omega (arith, w .low)) (omega arith) (omega (arith, w .high)) (omega (arith, l .1)) (omega (arith, l .1))))
+    let load = loadAlone (halved (a .half) (slopeMu (a .slope) (a .guard))) (a .factor) (a .sk) in
+    even-ramp (4 * a .slope .width) _ load _ (c .even .ensures) (c .before .before .slope-load .ensures)
+    (omega (arith, w .low)) (omega (arith, w .high))
 
 pub slope-ramp-spec : {M : Type 1} → statement M
 slope-ramp-spec = tie.close (tie.spec slope-load-requires cast-even mul-even even-requires returns)

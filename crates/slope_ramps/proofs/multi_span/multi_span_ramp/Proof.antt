@@ -32,8 +32,7 @@ own c =
     record {
       slope = s .slope-at .ensures;
       within = rw (s .slope-at .ensures) (s .before .pre .3);
-      load = c .slope-load .ensures .0;
-      most = c .slope-load .ensures .1;
+      load = c .slope-load .ensures;
     }
 
 even-requires : tie.Need-even-requires
@@ -43,10 +42,14 @@ returns : tie.Need-returns
 returns c = rw (c .even .ensures) (level-ramp _ _ _ _ _ _ _ _ (own (c .before .before)) (c .before .if1 .taken))
 
 across-requires : tie.Need-across-requires
-across-requires c κs = let a = c .before .before .before .before .args in (inner (a .undrifted) (a .i) (a .count) (c .if1 .left) .0, omega arith)
+across-requires c κs =
+    let a = c .before .before .before .before .args in
+    (inner (a .undrifted) (a .i) (a .count) (c .if1 .left) .0, omega arith)
 
 slope-at-requires-2 : tie.Need-slope-at-requires-2
-slope-at-requires-2 c κs = let a = c .before .before .before .before .before .args in omega (arith, inner (a .undrifted) (a .i) (a .count) (c .before .if1 .left) .1, c .across .ensures .1)
+slope-at-requires-2 c κs =
+    let a = c .before .before .before .before .before .args in
+    omega (arith, inner (a .undrifted) (a .i) (a .count) (c .before .if1 .left) .1, c .across .ensures .1)
 
 valley-load-requires : tie.Need-valley-load-requires
 valley-load-requires c κs = search needs
@@ -60,7 +63,7 @@ returns-2 c =
     let e = v .before .before .before in
     rw (c .whole .ensures)
     (left-ramp _ _ _ _ _ _ _ _ (own (e .before)) _ _ _ (v .before .before .across .ensures .0) (v .before .slope-at2 .ensures)
-    (v .valley-load .ensures .0) (v .valley-load .ensures .1) (e .if1 .left) (c .before .if2 .taken))
+    (v .valley-load .ensures) (e .if1 .left) (c .before .if2 .taken))
 
 whole-requires-2 : tie.Need-whole-requires-2
 whole-requires-2 c κs = search needs
@@ -71,7 +74,7 @@ returns-3 c =
     let e = v .before .before .before in
     rw (c .whole2 .ensures)
     (right-ramp _ _ _ _ _ _ _ _ (own (e .before)) _ _ _ (v .before .before .across .ensures .0) (v .before .slope-at2 .ensures)
-    (v .valley-load .ensures .0) (v .valley-load .ensures .1) (e .if1 .left) (omega (arith, c .before .if2 .left)))
+    (v .valley-load .ensures) (e .if1 .left) (omega (arith, c .before .if2 .left)))
 
 pub multi-span-ramp-spec : {M : Type 1} → statement M
 multi-span-ramp-spec =

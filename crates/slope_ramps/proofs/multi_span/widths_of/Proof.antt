@@ -38,11 +38,15 @@ loop-again : tie.Need-loop-again Inv-loop μ-loop
 loop-again c =
     let l = c .before .before .before .loop in
     let s = c .before .slope-at in
-    let w : s .result .width ≡ slopeOf (c .before .before .before .before .args .slopes .now) (l .i) .width = ap (λ (t : Slope). t .width) (s .ensures) in
-    (omega arith, omega (arith, widths-more (c .before .before .before .before .args .slopes .now) (l .i), l .inv .1), omega arith)
+    let slopes = c .before .before .before .before .args .slopes .now in
+    let w : s .result .width ≡ slopeOf slopes (l .i) .width = ap (λ (t : Slope). t .width) (s .ensures) in
+    (omega arith, omega (arith, widths-more slopes (l .i), l .inv .1), omega arith)
 
 returns : tie.Need-returns Inv-loop μ-loop
-returns c = let l = c .before .loop in let e : l .i ≡ c .before .before .args .n = omega arith in (rw e at (l .inv .1), omega arith)
+returns c =
+    let l = c .before .loop in
+    let e : l .i ≡ c .before .before .args .n = omega arith in
+    (rw e at (l .inv .1), omega arith)
 
 pub widths-of-spec : {M : Type 1} → statement M
 widths-of-spec =
