@@ -12,6 +12,7 @@ use digit_rows::put_segment;
 use digits::digits_of;
 use digits::table;
 use plain_rows::list_plainly;
+use plain_rows::put_row;
 
 // Writes a row for each of the first n segments of the numbers; up to six bytes behind them are spoiled.
 fn put_segments(
@@ -73,17 +74,7 @@ fn list_short(numbers: &[u32], n: usize, item: u32, code: u32, out: &mut [u8], a
         digits: code_digits,
     };
     let a = put_segments(&t, numbers, n, items, codes, out, at);
-    let last = 4 * n;
-    text::put_row6(
-        out,
-        a,
-        item,
-        code,
-        numbers[last],
-        numbers[last + 1],
-        numbers[last + 2],
-        numbers[last + 3],
-    )
+    put_row(numbers, n, item, code, out, a)
 }
 
 // Writes a row for each of the first n segments of the numbers, four numbers a segment.

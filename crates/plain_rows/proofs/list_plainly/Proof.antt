@@ -23,46 +23,12 @@ abbrev μ-loop : tie.MeasureT-loop
 
 loop-holds : tie.Need-loop-holds Inv-loop μ-loop
 unfolding sliceRows
-loop-holds c = (omega arith, omega arith, search needs, none (now (c .before .before .args .out)) (c .before .before .args .at))
+loop-holds c =
+    let z = c .before .before .args in
+    (omega arith, omega arith, search needs, none (now (z .out)) (z .at))
 
-mul-j : tie.Need-mul-j Inv-loop μ-loop
-mul-j c = search needs
-
-mul-put-row6 : tie.Need-mul-put-row6 Inv-loop μ-loop
-mul-put-row6 c = search needs
-
-shared-slice-read-put-row6 : tie.Need-shared-slice-read-put-row6 Inv-loop μ-loop
-shared-slice-read-put-row6 c = search needs
-
-add-put-row6 : tie.Need-add-put-row6 Inv-loop μ-loop
-add-put-row6 c = search needs
-
-mul-put-row6-2 : tie.Need-mul-put-row6-2 Inv-loop μ-loop
-mul-put-row6-2 c = search needs
-
-shared-slice-read-put-row6-2 : tie.Need-shared-slice-read-put-row6-2 Inv-loop μ-loop
-shared-slice-read-put-row6-2 c = search needs
-
-add-put-row6-2 : tie.Need-add-put-row6-2 Inv-loop μ-loop
-add-put-row6-2 c = search needs
-
-mul-put-row6-3 : tie.Need-mul-put-row6-3 Inv-loop μ-loop
-mul-put-row6-3 c = search needs
-
-shared-slice-read-put-row6-3 : tie.Need-shared-slice-read-put-row6-3 Inv-loop μ-loop
-shared-slice-read-put-row6-3 c = search needs
-
-add-put-row6-3 : tie.Need-add-put-row6-3 Inv-loop μ-loop
-add-put-row6-3 c = search needs
-
-mul-put-row6-4 : tie.Need-mul-put-row6-4 Inv-loop μ-loop
-mul-put-row6-4 c = search needs
-
-shared-slice-read-put-row6-4 : tie.Need-shared-slice-read-put-row6-4 Inv-loop μ-loop
-shared-slice-read-put-row6-4 c = search needs
-
-put-row6-requires : tie.Need-put-row6-requires Inv-loop μ-loop
-put-row6-requires c κs = search needs
+put-row-requires : tie.Need-put-row-requires Inv-loop μ-loop
+put-row-requires c κs = search needs
 
 add-i : tie.Need-add-i Inv-loop μ-loop
 add-i c = search needs
@@ -73,21 +39,21 @@ loop-less c = search needs
 loop-again : tie.Need-loop-again Inv-loop μ-loop
 unfolding sliceRows
 loop-again c =
-    let l = c .before .before .before .before .before .before .before .before .before in
-    let z = l .before .before .before .args in
-    let p = c .before .before .put-row6 in
-    let more = then {n = sliceRow (now (z .numbers)) (z .item) (z .code) (l .loop .i)} (l .loop .inv .3) (p .ensures .0) in
-    let e = ap (sliceRows (now (z .numbers)) (z .item) (z .code)) (sym (add-one (l .loop .i))) in
-    (omega arith, omega arith, search needs, wrote-as more e)
+    let p = c .before .before .put-row in
+    let l = c .before .before .before .before .before .loop in
+    let z = c .before .before .before .before .before .before .before .before .args in
+    let rows = sliceRows (now (z .numbers)) (z .item) (z .code) in
+    let next = sliceRow (now (z .numbers)) (z .item) (z .code) (l .i) in
+    let more = then {n = next} (l .inv .3) (p .ensures .0) in
+    (omega arith, omega arith, search needs, wrote-as more (ap rows (sym (add-one (l .i)))))
 
 same-length : tie.Need-same-length Inv-loop μ-loop
 same-length c = search needs
 
 returns : tie.Need-returns Inv-loop μ-loop
-unfolding sliceRows
 returns c =
-    let z = c .before .before .before .before .args in
     let l = c .before .loop in
+    let z = c .before .before .before .before .args in
     let e : l .i ≡ z .n = omega arith in
     (wrote-as (l .inv .3) (ap (sliceRows (now (z .numbers)) (z .item) (z .code)) e), omega arith)
 
@@ -98,19 +64,7 @@ list-plainly-spec =
     Inv-loop
     μ-loop
     loop-holds
-    mul-j
-    mul-put-row6
-    shared-slice-read-put-row6
-    add-put-row6
-    mul-put-row6-2
-    shared-slice-read-put-row6-2
-    add-put-row6-2
-    mul-put-row6-3
-    shared-slice-read-put-row6-3
-    add-put-row6-3
-    mul-put-row6-4
-    shared-slice-read-put-row6-4
-    put-row6-requires
+    put-row-requires
     add-i
     loop-less
     loop-again
