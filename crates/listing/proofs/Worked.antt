@@ -5,7 +5,8 @@ use mathlib.Core.Path.{_≡_, refl}
 use Rattle.figures.specs.RoofRules.{shapeRefusal}
 use Rattle.figures.specs.Rules.{firstOf}
 use Rattle.figures.specs.SiteRules.{siteRefusal}
-use Rattle.roof_rows.specs.Rows.{segmentRows, codeRows, codesRows, arrangementRows, slopeRows, forceRows}
+use Rattle.force_rows.specs.Rows.{slopeRows, forceRows}
+use Rattle.roof_rows.specs.Rows.{segmentRows, codeRows, codesRows, arrangementRows}
 use Rattle.roof_rows.specs.Rows.{roofRows}
 use Rattle.listing.specs.Listing.{itemRows, itemsRows, listingBy, listing}
 use Rattle.rounding.specs.Limit.{larger}

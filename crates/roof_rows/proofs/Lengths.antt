@@ -5,16 +5,15 @@ use mathlib.Core.List.{[]}
 use lib.ListN.{length, length-append}
 use native.Mathlib.Omega.{arith}
 use Rattle.figures.specs.declared.site.Site.{Site}
-use Rattle.figures.specs.declared.roof.Shape.{Shape}
 use Rattle.figures.specs.declared.roof.Roof.{Roof}
+use Rattle.force_rows.proofs.Rows.{forces-short}
+use Rattle.force_rows.specs.Rows.{forceRows}
 use Rattle.roof_rows.proofs.Counts.{rows-most}
-use Rattle.roof_rows.proofs.Lines.{segments-short, four-short}
-use Rattle.roof_rows.specs.Rows.{segmentRows, codeRows, codesRows, arrangementRows, forceRow, slopeRows, forceRows, roofRows, rowCount, rowCounts}
+use Rattle.roof_rows.proofs.Lines.{segments-short}
+use Rattle.roof_rows.specs.Rows.{segmentRows, codeRows, codesRows, arrangementRows, roofRows, rowCount, rowCounts}
 use Rattle.standard.specs.Arrangements.{exists, count, stretch}
 use Rattle.standard.specs.Bounds.{FiguresIn}
 use Rattle.standard.specs.Codes.{highestCode}
-use Rattle.standard.specs.Forces as forces
-use Rattle.standard.specs.Forces.{slopeAt, overhangAt, guardAt}
 use Rattle.standard.specs.declared.National.{National}
 
 module _ (national : National) (s : Site) (r : Roof) (item : ℕ) where
@@ -40,28 +39,6 @@ module _ (national : National) (s : Site) (r : Roof) (item : ℕ) where
   arrangement-short : FiguresIn national s r → length (arrangementRows national s r item) ≤ 8712
   unfolding arrangementRows
   arrangement-short h = omega (arith, codes-short highestCode, rows-most national s r h)
-
-module _ (s : Site) (shape : Shape) (item : ℕ) where
-  force-short : (code slope : ℕ) (f : forces.Force) → length (forceRow item code slope f) ≤ 44
-  force-short code slope (forces.force newtons) = four-short item code slope newtons
-  force-short code slope forces.none = omega arith
-  force-short code slope (forces.refused number) = omega arith
-
-  slope-short : (slope : ℕ) → length (slopeRows s shape item slope) ≤ 88
-  unfolding slopeRows
-  slope-short slope =
-      let eave = overhangAt s (slopeAt shape slope) in
-      let guard = guardAt s (slopeAt shape slope) in
-      omega (
-        arith,
-        length-append (forceRow item 21 slope eave) (forceRow item 22 slope guard),
-        force-short 21 slope eave,
-        force-short 22 slope guard,
-      )
-
-  forces-short : length (forceRows s shape item) ≤ 176
-  unfolding forceRows
-  forces-short = omega (arith, length-append (slopeRows s shape item 1) (slopeRows s shape item 2), slope-short 1, slope-short 2)
 
 pub roof-short : (national : National) (s : Site) (r : Roof) (item : ℕ) → FiguresIn national s r → length (roofRows national s r item) ≤ 8888
 unfolding roofRows

@@ -8,43 +8,27 @@ use lib.ListN.{length, getD, length-append, List·getD-append}
 use native.Mathlib.Nat.{eq-or-lt-of-le}
 use native.Mathlib.Numerals.{add-one}
 use native.Mathlib.Omega.{arith}
-use Rattle.figures.specs.RoofRules.{kindOf, shapeRefusal}
 use Rattle.figures.specs.declared.site.Site.{Site}
-use Rattle.figures.specs.declared.roof.Shape.{Shape}
 use Rattle.figures.specs.declared.roof.Roof.{Roof}
 use Rattle.arrangement.proofs.Writing.{segments-length}
-use Rattle.roof_rows.specs.Rows.{segmentRows, codeRows, codesRows, slopeRows, forceRows}
+use Rattle.roof_rows.specs.Rows.{segmentRows, codeRows, codesRows}
 use Rattle.roof_rows.specs.Rows.{rowCount, rowCounts}
 use Rattle.segment_rows.specs.Rows.{sliceRows}
 use Rattle.standard.specs.Arrangements.{exists, count, stretch}
 use Rattle.standard.specs.declared.National.{National}
-use Rattle.standard.specs.Codes.{forcesIn}
-use Rattle.standard.specs.Forces.{overhangAt, guardAt}
-use Rattle.standard.proofs.Forces.{no-sides}
 use Rattle.standard.specs.Stretch.{Stretch, readIn, startOf, segment, segments}
 use Rattle.text.specs.Text.{row}
 use Rattle.text.proofs.Writing.{short}
 
--- a row of six numbers, and one of four
-pub six-short : (a b c d e f : ℕ) → length (row (a ∷ b ∷ c ∷ d ∷ e ∷ f ∷ [])) ≤ 66
+-- a row of six numbers
+six-short : (a b c d e f : ℕ) → length (row (a ∷ b ∷ c ∷ d ∷ e ∷ f ∷ [])) ≤ 66
 six-short a b c d e f = simp length-append (omega (arith, short a, short b, short c, short d, short e, short f))
-
-pub four-short : (a b c d : ℕ) → length (row (a ∷ b ∷ c ∷ d ∷ [])) ≤ 44
-four-short a b c d = simp length-append (omega (arith, short a, short b, short c, short d))
 
 getD-behind : (l m : List ℕ) (j : ℕ) → getD (l ++ m) (length l + j) 0 ≡ getD m j 0
 getD-behind [] m j = ap (λ (k : ℕ). getD m k 0) (omega arith)
 getD-behind (x ∷ l) m j =
     let e : suc (length l) + j ≡ suc (length l + j) = omega arith in
     ap (λ (k : ℕ). getD ((x ∷ l) ++ m) k 0) e ∙ getD-behind l m j
-
--- one row more of a slice, by the places of its numbers
-pub next-row :
-    (numbers : List ℕ) (item code k a b c d : ℕ) → a ≡ 4 * k → b ≡ 4 * k + 1 → c ≡ 4 * k + 2 → d ≡ 4 * k + 3
-    → sliceRows numbers item code k ++ row (item ∷ code ∷ getD numbers a 0 ∷ getD numbers b 0 ∷ getD numbers c 0 ∷ getD numbers d 0 ∷ [])
-    ≡ sliceRows numbers item code (k + 1)
-unfolding sliceRows
-next-row numbers item code k a b c d e f g h = rw (add-one k, e, f, g, h)
 
 module _ (S : ℕ → Stretch) where
   -- the numbers of segment k among n segments, whatever stands behind them
@@ -116,10 +100,3 @@ module _ (national : National) (s : Site) (r : Roof) (item code : ℕ) where
   pub next-count : rowCounts national s r (code + 1) ≡ rowCounts national s r code + rowCount national s r (code + 1)
   unfolding rowCounts
   next-count = rw (add-one code)
-
--- a kind without local forces has no rows of them
-pub no-forces :
-    (s : Site) (shape : Shape) (item : ℕ) (slopes : List ℕ) → shapeRefusal shape slopes ≡ 0 → forcesIn (kindOf shape) ≡ false
-    → [] ≡ forceRows s shape item
-unfolding forceRows slopeRows overhangAt guardAt
-no-forces s shape item slopes h e = rw (no-sides shape slopes 1 h e, no-sides shape slopes 2 h e)

@@ -3,11 +3,10 @@ use Prim.Native.Nat.{ℕ, zero, suc, _+_}
 use mathlib.Core.Bool.{cond}
 use mathlib.Core.List.{List, [], _∷_, _++_}
 use Rattle.figures.specs.declared.site.Site.{Site}
-use Rattle.figures.specs.declared.roof.Shape.{Shape}
 use Rattle.figures.specs.declared.roof.Roof.{Roof}
+use Rattle.force_rows.specs.Rows.{forceRows}
 use Rattle.standard.specs.Arrangements.{exists, count, stretch}
 use Rattle.standard.specs.Codes.{highestCode}
-use Rattle.standard.specs.Forces.{Force, force, none, refused, slopeAt, overhangAt, guardAt}
 use Rattle.standard.specs.Stretch.{Stretch, segment}
 use Rattle.standard.specs.declared.National.{National}
 use Rattle.text.specs.Text.{row}
@@ -29,20 +28,6 @@ codesRows national s r item (suc n) = codesRows national s r item n ++ codeRows 
 
 unfoldable pub arrangementRows : National → Site → Roof → ℕ → List ℕ
 arrangementRows national s r item = codesRows national s r item highestCode
-
--- "item, 21, slope, overhang; item, 22, slope, guard force"; no line where there is no force
-abbrev pub forceRow : ℕ → ℕ → ℕ → Force → List ℕ
-forceRow item code slope (force newtons) = row (item ∷ code ∷ slope ∷ newtons ∷ [])
-forceRow item code slope none = []
-forceRow item code slope (refused number) = []
-
-unfoldable pub slopeRows : Site → Shape → ℕ → ℕ → List ℕ
-slopeRows s shape item slope =
-    forceRow item 21 slope (overhangAt s (slopeAt shape slope)) ++ forceRow item 22 slope (guardAt s (slopeAt shape slope))
-
--- "per slope (1 left or only, 2 right)"
-unfoldable pub forceRows : Site → Shape → ℕ → List ℕ
-forceRows s shape item = slopeRows s shape item 1 ++ slopeRows s shape item 2
 
 -- "After an item's segments" come its forces
 unfoldable pub roofRows : National → Site → Roof → ℕ → List ℕ

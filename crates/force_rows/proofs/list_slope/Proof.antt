@@ -2,12 +2,12 @@ use Prim.Native.Nat.{ℕ}
 use Rattle.standard.specs.Forces.{Force}
 use mathlib.Core.Path.{ap}
 use mathlib.Core.List.{List}
-use Rattle.roof_rows.specs.Rows.{forceRow, slopeRows}
+use Rattle.force_rows.specs.Rows.{forceRow, slopeRows}
 use Rattle.text.proofs.Writing.{then, wrote-as}
 use native.Mathlib.Omega.{arith}
 use borrow.Author.Needs.{needs}
-use Rattle.roof_rows.proofs.list_slope.Statement.{statement}
-use Rattle.roof_rows.proofs.list_slope.Tie as tie
+use Rattle.force_rows.proofs.list_slope.Statement.{statement}
+use Rattle.force_rows.proofs.list_slope.Tie as tie
 
 overhang-at-requires : tie.Need-overhang-at-requires
 overhang-at-requires c κs = search needs

@@ -1,14 +1,14 @@
 use Prim.Native.Nat.{ℕ}
 use mathlib.Core.List.{List}
 use mathlib.Core.Path.{ap, sym}
-use Rattle.roof_rows.specs.Rows.{forceRow}
+use Rattle.force_rows.specs.Rows.{forceRow}
 use Rattle.local_forces.specs.Answers.{forceMeans}
 use Rattle.local_forces.specs.declared.answers.LocalForce.{LocalForce}
 use Rattle.text.proofs.Writing.{none, wrote-as}
 use borrow.Author.Needs.{needs}
 use native.Mathlib.Omega.{arith}
-use Rattle.roof_rows.proofs.put_force.Statement.{statement}
-use Rattle.roof_rows.proofs.put_force.Tie as tie
+use Rattle.force_rows.proofs.put_force.Statement.{statement}
+use Rattle.force_rows.proofs.put_force.Tie as tie
 
 abbrev rowOf : tie.Start → LocalForce → List ℕ
 rowOf s f = let a = s .args in forceRow (a .item) (a .code) (a .slope) (forceMeans f)

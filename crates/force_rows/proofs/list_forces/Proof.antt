@@ -1,15 +1,15 @@
-use Rattle.roof_rows.proofs.Lines.{no-forces}
+use Rattle.force_rows.proofs.Rows.{no-forces}
 use Rattle.standard.specs.Codes.{forcesIn}
 use Rattle.figures.specs.RoofRules.{kindOf}
 use borrow.Author.Tests.{not-true}
 use mathlib.Core.Bool.{false}
 use mathlib.Core.Path.{_≡_, sym, _∙_}
-use Rattle.roof_rows.specs.Rows.{forceRows}
+use Rattle.force_rows.specs.Rows.{forceRows}
 use Rattle.text.proofs.Writing.{then, none, wrote-as}
 use native.Mathlib.Omega.{arith}
 use borrow.Author.Needs.{needs}
-use Rattle.roof_rows.proofs.list_forces.Statement.{statement}
-use Rattle.roof_rows.proofs.list_forces.Tie as tie
+use Rattle.force_rows.proofs.list_forces.Statement.{statement}
+use Rattle.force_rows.proofs.list_forces.Tie as tie
 
 kind-of-requires : tie.Need-kind-of-requires
 kind-of-requires c κs = search needs
