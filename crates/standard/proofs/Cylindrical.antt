@@ -18,6 +18,7 @@ use Rattle.rounding.proofs.Rounding.{below-least, up-nothing}
 use Rattle.standard.specs.Coefficients.{mu3}
 use Rattle.standard.specs.Stretch.{even, load, startOf, eightTenths, noLoad}
 use Rattle.standard.specs.Cylindrical.{firstFrom, wideEnough, loadedWidth, archEven, archDrift, peakLoad, halfLoad, cylindrical, cylindricalCount}
+use Rattle.standard.specs.Units.{parts}
 use Rattle.standard.specs.declared.National.{National}
 use Rattle.standard.proofs.Numerators.{mu3-positive}
 use Rattle.standard.proofs.Runs.{Readable, Level, Upward, Rises, WellFormed, formed, outside}
@@ -133,12 +134,12 @@ module _ (rise span : ℕ) where
       by-steepness (λ w. 0 < w) (omega arith)
       (pos-of-ne-zero (λ z. nothing-not-wide h (rw z at (found .taken (omega arith)))))
 
-no-load-break : breakLoad 1 noLoad ≡ 0
-no-load-break = break-alone 1 (over 0 1) ∙ up-nothing 1
+no-load-break : breakLoad parts noLoad ≡ 0
+no-load-break = break-alone parts (over 0 1) ∙ up-nothing parts
 
-eight-tenths-break : (factor sk : ℕ) → 0 < factor → 0 < sk → 0 < breakLoad 1 (eightTenths factor sk)
+eight-tenths-break : (factor sk : ℕ) → 0 < factor → 0 < sk → 0 < breakLoad parts (eightTenths factor sk)
 unfolding breakLoad roundedUp load
-eight-tenths-break factor sk hf hs = omega (arith, below-least (1 * (8 * factor * sk)) (10 * 1000000) 0 (omega arith) (omega (arith, mul-pos hf hs)))
+eight-tenths-break factor sk hf hs = omega (arith, below-least (parts * (8 * factor * sk)) (10 * 1000000) 0 (omega arith) (omega (arith, mul-pos hf hs)))
 
 module _ (span ls : ℕ) where
   module _ (some : 0 < ls) where
@@ -195,8 +196,8 @@ module _ (span ls : ℕ) where
 
   arch-even-apart :
       (factor sk : ℕ) → 0 < factor → 0 < sk → (bare : Bool) (i : ℕ) → suc i < cond bare 3 1
-      → breakLoad 1 (archEven factor sk span ls (cond bare i (suc i)) .from)
-      ≡ breakLoad 1 (archEven factor sk span ls (cond bare (suc i) (suc (suc i))) .from) → ⊥
+      → breakLoad parts (archEven factor sk span ls (cond bare i (suc i)) .from)
+      ≡ breakLoad parts (archEven factor sk span ls (cond bare (suc i) (suc (suc i))) .from) → ⊥
   unfolding archEven
   arch-even-apart factor sk hf hs true zero c e = omega (arith, no-load-break, eight-tenths-break factor sk hf hs)
   arch-even-apart factor sk hf hs true (suc zero) c e = omega (arith, no-load-break, eight-tenths-break factor sk hf hs)
@@ -272,8 +273,8 @@ module _ (national : National) (factor rise span : ℕ) where
       (undrifted : Bool) (sk i : ℕ) → 0 < factor → 0 < sk → suc i < cylindricalCount rise span undrifted
       → (not undrifted && within 1 4 (cond (ltb (loadedWidth rise span) span) i (suc i))) ≡ false
       → (not undrifted && within 1 4 (cond (ltb (loadedWidth rise span) span) (suc i) (suc (suc i)))) ≡ false
-      → breakLoad 1 (cylindrical national factor sk rise span undrifted i .from)
-      ≡ breakLoad 1 (cylindrical national factor sk rise span undrifted (suc i) .from) → ⊥
+      → breakLoad parts (cylindrical national factor sk rise span undrifted i .from)
+      ≡ breakLoad parts (cylindrical national factor sk rise span undrifted (suc i) .from) → ⊥
   unfolding cylindrical cylindricalCount
   cylindrical-apart true sk i hf hs c e e' d =
       arch-even-apart span (loadedWidth rise span) factor sk hf hs (ltb (loadedWidth rise span) span) i c d

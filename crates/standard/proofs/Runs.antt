@@ -19,6 +19,7 @@ use Rattle.rounding.proofs.Ramps.{close-whole, exact-positive, line-positive, r
 use Rattle.rounding.proofs.Limited.{larger-is, larger-left, larger-right, below-trans}
 use Rattle.standard.specs.Stretch.{Stretch, Near, even, ramp, noLoad, startOf, segment, holds}
 use Rattle.standard.specs.Stretch.{readIn, exactIn, readingAt, exactReadingAt, greatest, exactGreatest}
+use Rattle.standard.specs.Units.{parts}
 
 -- a stretch fit to be read
 pub record Readable (s : Stretch) : Type 0 where
@@ -42,13 +43,13 @@ unfolding readIn reading breakLoad roundedUp ceilDiv
 cut-ramp = refl
 
 -- the load at an end that is not cut
-pub start-load : (s : Stretch) → Readable s → s .skip ≡ 0 → readIn s 0 ≡ breakLoad 1 (s .from)
+pub start-load : (s : Stretch) → Readable s → s .skip ≡ 0 → readIn s 0 ≡ breakLoad parts (s .from)
 unfolding readIn
 start-load s f e =
     let z : s .skip + 0 ≡ 0 = omega arith in
     rw z (reading-start _ _ (s .full) (full-positive s f))
 
-pub end-load : (s : Stretch) → Readable s → s .skip + s .extent ≡ s .full → readIn s (s .extent) ≡ breakLoad 1 (s .to)
+pub end-load : (s : Stretch) → Readable s → s .skip + s .extent ≡ s .full → readIn s (s .extent) ≡ breakLoad parts (s .to)
 unfolding readIn
 end-load s f e = rw e (reading-end _ _ (s .full) (full-positive s f))
 
