@@ -5,7 +5,7 @@ ghost use Prim.Native.Nat.{_≤_};
 ghost use Rattle.figures.specs.Bounds.{SiteIn};
 ghost use Rattle.standard.specs.Answers.{codeRefusal};
 ghost use Rattle.standard.specs.Arrangements.{exceptionalOf, factorOf};
-ghost use Rattle.standard.specs.Codes.{persistentIn, accidental, baseCode, existsIn, highestCode, forcesIn};
+ghost use Rattle.standard.specs.Codes.{persistentIn, accidental, baseCode, existsIn, forcesIn};
 use figures::Roof;
 use figures::Site;
 use figures::first;
