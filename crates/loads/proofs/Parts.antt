@@ -21,7 +21,7 @@ up-whole n d = ap (λ (z : ℕ). ceilDiv z d) (omega arith)
 
 -- a shape coefficient as code has it, m over d
 pub record Coefficient (mu : Fraction) (m d : ℕ) : Type 0 where
-  pub true : 0 < mu .den
+  pub positive : 0 < mu .den
   pub some : 0 < d
   pub same : Same mu (over m d)
 
@@ -32,7 +32,7 @@ module _ (mu : Fraction) (m d factor sk r : ℕ) where
   part-is h e =
       let hd : 0 < d = h .some in
       e ∙ (up-whole (m * factor * sk) (d * 1000000)
-      ∙ sym (up-same 1 _ _ (load-positive mu factor sk (h .true)) (omega arith) (load-same mu (over m d) factor sk (h .same))))
+      ∙ sym (up-same 1 _ _ (load-positive mu factor sk (h .positive)) (omega arith) (load-same mu (over m d) factor sk (h .same))))
 
   -- the load at μ = m / (d × sk)
   pub part-without :
@@ -62,7 +62,7 @@ module _ (mu : Fraction) (m d factor sk r : ℕ) (h : Coefficient mu m d) where
 
   half : Coefficient (halved true mu) m (2 * d)
   unfolding Same
-  half = record { true = omega (arith, h .true); some = omega (arith, h .some); same = omega (arith, h .same) }
+  half = record { positive = omega (arith, h .positive); some = omega (arith, h .some); same = omega (arith, h .same) }
 
   pub half-load-is : Rounded (m * factor * sk) (2 * d) r → Loaded (halved true mu) factor sk r
   half-load-is e = (alone-is _ r (part-is (halved true mu) m (2 * d) factor sk r half (e .0)), e .1)

@@ -15,7 +15,7 @@ mu c =
     let a = c .before .args in
     let h = c .before .pre .2 .low in
     record {
-      true = mu3-positive (a .national) (a .rise) (a .span) h;
+      positive = mu3-positive (a .national) (a .rise) (a .span) h;
       some = omega arith;
       same = rw (c .arch-numerator .ensures .0) (mu3-is (a .national) (a .rise) (a .span) h);
     }

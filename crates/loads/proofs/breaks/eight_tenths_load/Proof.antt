@@ -13,7 +13,7 @@ returns : tie.Need-returns
 unfolding Same
 returns c =
     let a = c .before .args in
-    load-is (over 8 10) 8 10 (a .factor) (a .sk) _ (record { true = omega arith; some = omega arith; same = refl }) (c .load-up .ensures)
+    load-is (over 8 10) 8 10 (a .factor) (a .sk) _ (record { positive = omega arith; some = omega arith; same = refl }) (c .load-up .ensures)
 
 pub eight-tenths-load-spec : {M : Type 1} → statement M
 eight-tenths-load-spec = tie.close (tie.spec load-up-requires returns)

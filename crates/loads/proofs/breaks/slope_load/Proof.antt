@@ -12,7 +12,7 @@ mu1 :
 mu1 c =
     let a = c .before .args in
     record {
-      true = slope-mu-positive (a .slope) (a .guard);
+      positive = slope-mu-positive (a .slope) (a .guard);
       some = omega arith;
       same = rw (c .slope-numerator .ensures .0) (slope-mu-is (a .slope) (a .guard) (c .before .pre .0));
     }

@@ -19,7 +19,7 @@ returns c =
     let m = c .before .valley-numerator in
     let t = a .left + a .right in
     load-is (mu2 t) (m .result) 750 (a .factor) (a .sk) _
-    (record { true = mu2-positive t; some = omega arith; same = rw (m .ensures .0) (mu2-is t) })
+    (record { positive = mu2-positive t; some = omega arith; same = rw (m .ensures .0) (mu2-is t) })
     (c .load-up .ensures)
 
 pub valley-load-spec : {M : Type 1} → statement M

@@ -63,7 +63,7 @@ returns c =
           (rw (← p .5)
           (part-is (muSlide (a .slope) (a .guard) (a .ls)) (slide .result) (375 * a .ls) (a .factor) (a .sk) _
           (record {
-            true = slide-positive (a .slope) (a .guard) (a .ls) (omega (arith, p .6 .low));
+            positive = slide-positive (a .slope) (a .guard) (a .ls) (omega (arith, p .6 .low));
             some = omega (arith, p .6 .low);
             same = rw (slide .ensures .0) (slide-is (a .slope) (a .guard) (a .ls) (p .4));
           })
