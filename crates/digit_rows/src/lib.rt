@@ -1,5 +1,5 @@
 // The row of a segment from digits that are held in words. Eight bytes are written at a time, and those of them that are no text are written over next.
-ghost use Prim.Native.Nat.{_+_, _*_, _≤_, _<_};
+ghost use Prim.Native.Nat.{_+_, _≤_, _<_};
 ghost use mathlib.Core.Path.{_≡_};
 ghost use mathlib.Core.List.{[], _∷_, _++_};
 ghost use lib.ListN.{length};

@@ -1,5 +1,4 @@
 use native.Mathlib.Numerals.{unary-clauses}
-use mathlib.Core.Path.{refl}
 use lib.ListN.{length-set}
 use native.Mathlib.Omega.{arith}
 use borrow.Author.Needs.{needs}

@@ -1,6 +1,3 @@
-use mathlib.Core.Path.{ap, sym}
-use mathlib.Core.Bool.{Bool, cond}
-use Prim.Native.Nat.{ℕ}
 use borrow.Author.Tests.{lt-ltb, le-ltb}
 use native.Mathlib.Omega.{arith}
 use Rattle.digits.specs.Words.{over}

@@ -1,6 +1,6 @@
-use Prim.Native.Nat.{ℕ, _+_, _*_, _/_, _-_, _^_}
+use Prim.Native.Nat.{ℕ, _*_, _/_, _-_, _^_}
 use mathlib.Core.Path.{ap, _∙_}
-use Rattle.digits.specs.Words.{bytesOf, pack, padded}
+use Rattle.digits.specs.Words.{bytesOf}
 use native.Mathlib.Omega.{arith}
 use Rattle.digits.proofs.Shifted.{shifted-four}
 use borrow.Author.Needs.{needs}

@@ -1,4 +1,3 @@
-use Prim.Native.Nat.{_+_}
 use mathlib.Core.Path.{ap, sym}
 use native.Mathlib.Numerals.{add-one}
 use denote.Ref.{now}
