@@ -199,11 +199,14 @@ pub fn decode(p: &[u8]) -> Decoded
         return refused(ITEM_LENGTH);
     }
     let kind = p[0];
+    // The one kind with slopes is answered apart, so that they aren't copied where the others meet.
+    if kind == 4 {
+        return multi_span_item(p);
+    }
     match kind {
         1 => site_item(p),
         2 => monopitch_item(p),
         3 => pitched_item(p),
-        4 => multi_span_item(p),
         5 => cylindrical_item(p),
         6 => abutting_item(p),
         7 => projection_item(p),

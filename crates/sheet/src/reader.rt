@@ -54,11 +54,10 @@ fn later_number(p: &[u8]) -> u8
 {
     let decoded = decode(p);
     let item = decoded.item;
-    let slopes = decoded.slopes;
     let Item::RoofItem(shape) = item else {
         return misplaced_number(item);
     };
-    shape_refusal(shape, &slopes)
+    shape_refusal(shape, &decoded.slopes)
 }
 
 // The first rule that the item at an index breaks, 0 where it breaks none.

@@ -14,6 +14,13 @@ returns c = c .refused .ensures ∙ empty _ (c .before .if1 .taken)
 shared-slice-read-kind : tie.Need-shared-slice-read-kind
 shared-slice-read-kind c = search needs
 
+multi-span-item-requires : tie.Need-multi-span-item-requires
+multi-span-item-requires c κs = search needs
+
+returns-2 : tie.Need-returns-2
+unfolding byKind
+returns-2 c = c .multi-span-item .ensures ∙ of-kind _ (c .before .before .before .if1 .left) 4 (c .before .if2 .taken)
+
 site-item-requires : tie.Need-site-item-requires
 site-item-requires c κs = search needs
 
@@ -22,9 +29,6 @@ monopitch-item-requires c κs = search needs
 
 pitched-item-requires : tie.Need-pitched-item-requires
 pitched-item-requires c κs = search needs
-
-multi-span-item-requires : tie.Need-multi-span-item-requires
-multi-span-item-requires c κs = search needs
 
 cylindrical-item-requires : tie.Need-cylindrical-item-requires
 cylindrical-item-requires c κs = search needs
@@ -38,39 +42,36 @@ projection-item-requires c κs = search needs
 refused-requires-2 : tie.Need-refused-requires-2
 refused-requires-2 c κs = search needs
 
-returns-2 : tie.Need-returns-2
-unfolding byKind
-returns-2 c = c .site-item .ensures ∙ of-kind _ (c .before .before .before .if1 .left) 1 (c .before .match .keys1)
-
 returns-3 : tie.Need-returns-3
 unfolding byKind
-returns-3 c = c .monopitch-item .ensures ∙ of-kind _ (c .before .before .before .if1 .left) 2 (c .before .match .keys2)
+returns-3 c = c .site-item .ensures ∙ of-kind _ (c .before .before .before .before .if1 .left) 1 (c .before .match .keys1)
 
 returns-4 : tie.Need-returns-4
 unfolding byKind
-returns-4 c = c .pitched-item .ensures ∙ of-kind _ (c .before .before .before .if1 .left) 3 (c .before .match .keys3)
+returns-4 c = c .monopitch-item .ensures ∙ of-kind _ (c .before .before .before .before .if1 .left) 2 (c .before .match .keys2)
 
 returns-5 : tie.Need-returns-5
 unfolding byKind
-returns-5 c = c .multi-span-item .ensures ∙ of-kind _ (c .before .before .before .if1 .left) 4 (c .before .match .keys4)
+returns-5 c = c .pitched-item .ensures ∙ of-kind _ (c .before .before .before .before .if1 .left) 3 (c .before .match .keys3)
 
 returns-6 : tie.Need-returns-6
 unfolding byKind
-returns-6 c = c .cylindrical-item .ensures ∙ of-kind _ (c .before .before .before .if1 .left) 5 (c .before .match .keys5)
+returns-6 c = c .cylindrical-item .ensures ∙ of-kind _ (c .before .before .before .before .if1 .left) 5 (c .before .match .keys4)
 
 returns-7 : tie.Need-returns-7
 unfolding byKind
-returns-7 c = c .abutting-item .ensures ∙ of-kind _ (c .before .before .before .if1 .left) 6 (c .before .match .keys6)
+returns-7 c = c .abutting-item .ensures ∙ of-kind _ (c .before .before .before .before .if1 .left) 6 (c .before .match .keys5)
 
 returns-8 : tie.Need-returns-8
 unfolding byKind
-returns-8 c = c .projection-item .ensures ∙ of-kind _ (c .before .before .before .if1 .left) 7 (c .before .match .keys7)
+returns-8 c = c .projection-item .ensures ∙ of-kind _ (c .before .before .before .before .if1 .left) 7 (c .before .match .keys6)
 
 returns-9 : tie.Need-returns-9
 returns-9 c =
     let m = c .before .match .rest in
-    let u = unknown _ _ (m .0 .0 .0 .0 .0 .0 .1) (m .0 .0 .0 .0 .0 .1) (m .0 .0 .0 .0 .1) (m .0 .0 .0 .1) (m .0 .0 .1) (m .0 .1) (m .1) in
-    c .refused2 .ensures ∙ (u ∙ of-kind _ (c .before .before .before .if1 .left) _ refl)
+    let four = c .before .before .if2 .left in
+    let u = unknown _ _ (m .0 .0 .0 .0 .0 .1) (m .0 .0 .0 .0 .1) (m .0 .0 .0 .1) four (m .0 .0 .1) (m .0 .1) (m .1) in
+    c .refused2 .ensures ∙ (u ∙ of-kind _ (c .before .before .before .before .if1 .left) _ refl)
 
 pub decode-spec : {M : Type 1} → statement M
 decode-spec =
@@ -79,15 +80,15 @@ decode-spec =
     refused-requires
     returns
     shared-slice-read-kind
+    multi-span-item-requires
+    returns-2
     site-item-requires
     monopitch-item-requires
     pitched-item-requires
-    multi-span-item-requires
     cylindrical-item-requires
     abutting-item-requires
     projection-item-requires
     refused-requires-2
-    returns-2
     returns-3
     returns-4
     returns-5

@@ -17,7 +17,7 @@ misplaced-number-requires c κs = search needs
 
 returns : tie.Need-returns
 returns c =
-    let d = c .before .before .before .decode in
+    let d = c .before .before .decode in
     c .misplaced-number .ensures ∙ (later-misplaced (d .result .item) (d .result .slopes) (c .before .match .keys2) .0 ∙ ap (ruleOf 1) (d .ensures))
 
 shape-refusal-requires : tie.Need-shape-refusal-requires
@@ -25,8 +25,8 @@ shape-refusal-requires c κs = search needs
 
 returns-2 : tie.Need-returns-2
 returns-2 c =
-    let b = c .before .before .before in
-    let d = b .before .before .before .decode in
+    let b = c .before .before .before .before in
+    let d = b .before .before .decode in
     c .shape-refusal .ensures
     ∙ (ap (λ (x : Item). ruleNumber 1 x (d .result .slopes)) (sym (b .item .given .1)) ∙ ap (ruleOf 1) (d .ensures))
 
