@@ -4,7 +4,7 @@ use mathlib.Core.List.{List, _++_}
 use lib.ListN.{length, drop}
 use Rattle.figures.specs.declared.site.Site.{Site}
 use Rattle.figures.specs.declared.roof.Roof.{Roof}
-use Rattle.sheet.specs.Sheet as sheets
+use Rattle.pairs.specs.Pairs as sheets
 use Rattle.sheet_figures.specs.declared.Finding.{Finding}
 use Rattle.sheet_figures.specs.declared.Finding.the-variants.{RoofFound, NoRoof, Refused}
 use Rattle.sheet_figures.specs.declared.Found.{Found}

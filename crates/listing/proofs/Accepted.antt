@@ -7,7 +7,8 @@ use native.Mathlib.Omega.{arith}
 use Rattle.listing.specs.Listing.{itemRows, itemsRows}
 use Rattle.roof_rows.specs.Rows.{roofRows}
 use Rattle.sheet_figures.specs.Find.{sheetSite, sheetRoof}
-use Rattle.sheet.specs.Sheet.{ItemIn, accepted, terminals, sheetVerdict}
+use Rattle.pairs.specs.Pairs.{accepted, terminals}
+use Rattle.sheet.specs.Sheet.{ItemIn, sheetVerdict}
 use Rattle.sheet.proofs.Kept.{sheet-kept, item-in}
 use Rattle.sheet_figures.proofs.Sound.{site-sound, roof-sound}
 use Rattle.standard.specs.Bounds.{FiguresIn}

@@ -15,7 +15,8 @@ use Rattle.rounding.specs.Ramp.{reading}
 use Rattle.rounding.specs.Up.{ceilDiv, roundedUp}
 use Rattle.items.specs.Items.{sized, siteItem, monopitchItem, byKind, content}
 use Rattle.sheet_figures.specs.Find.{sheetSite, sheetRoof}
-use Rattle.sheet.specs.Sheet.{pairNumber, itemNumber, inTurn, pairsVerdict, sheetVerdict}
+use Rattle.pairs.specs.Pairs.{pairNumber, inTurn, pairsVerdict}
+use Rattle.sheet.specs.Sheet.{itemNumber, sheetVerdict}
 use Rattle.standard.specs.Arrangements.{factorOf, countIn, stretchIn, exists, count, stretch}
 use Rattle.standard.specs.Codes.{existsIn}
 use Rattle.standard.specs.Coefficients.{mu1, guarded}

@@ -6,7 +6,8 @@ use lib.Dec.{ltb}
 use lib.ListN.{length, drop}
 use Rattle.roof_rows.specs.Rows.{roofRows}
 use Rattle.sheet_figures.specs.Find.{sheetSite, sheetRoof}
-use Rattle.sheet.specs.Sheet.{Answer, accepted, refused, terminals, sheetVerdict}
+use Rattle.pairs.specs.Pairs.{Answer, accepted, refused, terminals}
+use Rattle.sheet.specs.Sheet.{sheetVerdict}
 use Rattle.standard.specs.Coefficients.{recommendedFigures}
 use Rattle.standard.specs.declared.National.{National}
 use Rattle.text.specs.Text.{row}

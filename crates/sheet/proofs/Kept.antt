@@ -11,10 +11,12 @@ use native.Mathlib.Nat.{eq-or-lt-of-le, eq-zero-or-pos}
 use native.Mathlib.Omega.{arith}
 use Rattle.figures.proofs.Laws.{both}
 use Rattle.items.specs.Items.{content}
-use Rattle.sheet.specs.Sheet.{Answer, accepted, refused, Place, count, offset, size, earliest, part, fits, pairNumber, ruleOf, itemNumber, inTurn}
-use Rattle.sheet.specs.Sheet.{ItemIn, andThen, pairsVerdict, sheetVerdict, placeBy, place}
-use Rattle.sheet.specs.declared.pairs.Ceiling.{Ceiling}
-use Rattle.sheet.proofs.Turns.{Fitting, fitting}
+use Rattle.pairs.specs.Pairs.{Answer, accepted, refused, count, offset, size, earliest, fits, pairNumber, inTurn}
+use Rattle.sheet.specs.Sheet.{Place, part, ruleOf, itemNumber}
+use Rattle.pairs.specs.Pairs.{pairsVerdict}
+use Rattle.sheet.specs.Sheet.{ItemIn, andThen, sheetVerdict, placeBy, place}
+use Rattle.pairs.specs.declared.Ceiling.{Ceiling}
+use Rattle.pairs.proofs.Turns.{Fitting, fitting}
 
 -- an answer that is accepted is no refusal
 not-refused : {A : Type 0} (b : Bool) (v : Answer A) (k i : ℕ) (a : A) → cond b v (refused k i) ≡ accepted a → (b ≡ true) × (v ≡ accepted a)

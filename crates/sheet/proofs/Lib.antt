@@ -1,3 +1,2 @@
 pub mod Kept
 pub mod Places
-pub mod Turns

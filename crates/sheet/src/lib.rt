@@ -1,6 +1,5 @@
 // A sheet as bytes: the verdict on it, where an item lies, and the item as a part of the sheet. Every call takes any bytes,
 // but `part_at`, which is for the crates above. The ceilings are the terminals'.
-mod pairs;
 mod reader;
 
 pub use pairs::Verdict;

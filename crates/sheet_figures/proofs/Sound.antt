@@ -15,7 +15,8 @@ use Rattle.items.specs.declared.decoding.Item.the-variants.{SiteItem, RoofItem,
 use Rattle.items.specs.declared.decoding.Decoded.{Decoded}
 use Rattle.sheet.proofs.Kept.{located-in}
 use Rattle.sheet_figures.specs.Find.{sheetSite, sheetRoof, foundIn, foundBy, found}
-use Rattle.sheet.specs.Sheet.{Answer, accepted, refused, Place, terminals, part, ruleNumber, itemNumber, place}
+use Rattle.pairs.specs.Pairs.{Answer, accepted, refused, terminals}
+use Rattle.sheet.specs.Sheet.{Place, part, ruleNumber, itemNumber, place}
 use Rattle.sheet_figures.specs.declared.Finding.the-variants.{RoofFound, NoRoof, Refused}
 
 site-by : (x : Item) (l : List ℕ) → Numbered x → ruleNumber 0 x l ≡ 0 → siteRefusal (siteBy x) ≡ 0

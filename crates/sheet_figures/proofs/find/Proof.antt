@@ -1,6 +1,7 @@
 use mathlib.Core.Path.{_≡_, sym, ap, _∙_}
 use denote.Ref.{now}
-use Rattle.sheet.specs.Sheet.{accepted, terminals, place, locatedMeans}
+use Rattle.pairs.specs.Pairs.{accepted, terminals}
+use Rattle.sheet.specs.Sheet.{place, locatedMeans}
 use Rattle.sheet_figures.proofs.Sound.{found-placed, found-refused}
 use Rattle.sheet.proofs.Kept.{located-in}
 use borrow.Author.Needs.{needs}

@@ -1,7 +1,7 @@
 use mathlib.Core.Path.{ap, sym, _∙_}
 use denote.Ref.{now}
 use Rattle.sheet.proofs.Kept.{sheet-kept}
-use Rattle.sheet.specs.Sheet.{terminals, verdictMeans}
+use Rattle.pairs.specs.Pairs.{terminals, verdictMeans}
 use Rattle.item_answers.specs.Calls.{verdictCode}
 use borrow.Author.Needs.{needs}
 use native.Mathlib.Omega.{arith}

@@ -1,9 +1,10 @@
 use mathlib.Core.Path.{_≡_, sym, _∙_}
 use denote.Ref.{now}
 use Prim.Native.Nat.{_≤_, _-_}
-use Rattle.sheet.specs.Sheet.{itemNumber, inTurn}
+use Rattle.pairs.specs.Pairs.{inTurn}
+use Rattle.sheet.specs.Sheet.{itemNumber}
 use Rattle.sheet.proofs.Kept.{pairs-kept}
-use Rattle.sheet.proofs.Turns.{turn-refused, turn-next, turn-end, turn-start}
+use Rattle.pairs.proofs.Turns.{turn-refused, turn-next, turn-end, turn-start}
 use native.Mathlib.Omega.{arith}
 use borrow.Author.Needs.{needs}
 use Rattle.sheet.proofs.reader.check_items.Statement.{statement}

@@ -2,7 +2,8 @@ use native.Mathlib.Nat.{add-sub-cancel-left, add-sub-cancel}
 use Prim.Native.Nat.{_+_, _≤_}
 use lib.ListN.{length}
 use Rattle.sheet.proofs.Kept.{located}
-use Rattle.sheet.specs.Sheet.{Answer, Place, accepted, terminals, place, partAt, locatedMeans}
+use Rattle.pairs.specs.Pairs.{Answer, accepted, terminals}
+use Rattle.sheet.specs.Sheet.{Place, place, partAt, locatedMeans}
 use denote.Ref.{now}
 use native.Mathlib.Omega.{arith}
 use mathlib.Core.Path.{_≡_, sym, ap, _∙_}

@@ -1,5 +1,6 @@
 use Rattle.sheet.proofs.Kept.{item-in, place-refused, place-none, place-found}
-use Rattle.sheet.specs.Sheet.{ItemIn, accepted, sheetVerdict, verdictMeans}
+use Rattle.pairs.specs.Pairs.{accepted, verdictMeans}
+use Rattle.sheet.specs.Sheet.{ItemIn, sheetVerdict}
 use denote.Ref.{now}
 use native.Mathlib.Omega.{arith}
 use mathlib.Core.Path.{_≡_, sym, ap, _∙_}

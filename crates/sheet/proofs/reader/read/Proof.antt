@@ -1,5 +1,5 @@
 use Rattle.sheet.proofs.Kept.{sheet-refused, sheet-items}
-use Rattle.sheet.specs.Sheet.{verdictMeans}
+use Rattle.pairs.specs.Pairs.{verdictMeans}
 use mathlib.Core.Path.{sym, ap, _∙_}
 use borrow.Author.Needs.{needs}
 use Rattle.sheet.proofs.reader.read.Statement.{statement}

@@ -1,8 +1,8 @@
-// The count and the pairs of a sheet: refusals 1 and 2.
+// The count and the pairs of a sheet, and the verdict on them: refusals 1 and 2.
 ghost use mathlib.Core.Path.{_≡_};
 ghost use Prim.Native.Nat.{_+_, _*_, _≤_};
 ghost use lib.ListN.{length};
-ghost use Rattle.sheet.specs.Sheet.{count, pairNumber, inTurn, pairsVerdict, verdictMeans};
+ghost use Rattle.pairs.specs.Pairs.{count, pairNumber, inTurn, pairsVerdict, verdictMeans};
 use little_endian::index_at;
 
 // Refusals of a sheet's pairs, by document 01's numbers.

@@ -1,12 +1,12 @@
 use mathlib.Core.Path.{sym}
-use Rattle.sheet.proofs.Turns.{turn-refused, turn-next, turn-end, turn-start, pair-early, pair-past, pair-sound}
-use Rattle.sheet.specs.Sheet.{earliest, pairNumber, inTurn}
+use Rattle.pairs.proofs.Turns.{turn-refused, turn-next, turn-end, turn-start, pair-early, pair-past, pair-sound}
+use Rattle.pairs.specs.Pairs.{earliest, pairNumber, inTurn}
 use Prim.Native.Nat.{_≤_, _-_}
 use mathlib.Core.Path.{_≡_, _∙_}
 use native.Mathlib.Numerals.{add-one}
 use native.Mathlib.Omega.{arith}
-use Rattle.sheet.proofs.pairs.check_pairs.Statement.{statement}
-use Rattle.sheet.proofs.pairs.check_pairs.Tie as tie
+use Rattle.pairs.proofs.check_pairs.Statement.{statement}
+use Rattle.pairs.proofs.check_pairs.Tie as tie
 
 abbrev Inv-loop : tie.InvT-loop
 Inv-loop s n e₀ i₀ e i = (i ≤ n) × (e ≡ earliest s i) × (inTurn (pairNumber s) n 0 n ≡ inTurn (pairNumber s) n i (n - i))

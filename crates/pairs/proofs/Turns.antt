@@ -10,8 +10,8 @@ use native.Mathlib.Numerals.{add-one}
 use native.Mathlib.Omega.{arith}
 use Rattle.figures.proofs.Laws.{both, within-in}
 use Rattle.figures.specs.Ranges.{within}
-use Rattle.sheet.specs.Sheet.{accepted, refused, count, offset, size, earliest, fits, pairNumber, inTurn, pairsVerdict}
-use Rattle.sheet.specs.declared.pairs.Ceiling.{Ceiling}
+use Rattle.pairs.specs.Pairs.{accepted, refused, count, offset, size, earliest, fits, pairNumber, inTurn, pairsVerdict}
+use Rattle.pairs.specs.declared.Ceiling.{Ceiling}
 
 -- one turn of the walk, by the number of the item in turn; its end
 module _ (number : ℕ → ℕ) (m i n : ℕ) where

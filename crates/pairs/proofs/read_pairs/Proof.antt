@@ -1,14 +1,14 @@
 use mathlib.Core.Bool.{true}
 use mathlib.Core.Path.{_≡_, _∙_}
-use Rattle.sheet.specs.Sheet.{fits}
-use Rattle.sheet.proofs.Turns.{fitting, too-short, outside, inside}
+use Rattle.pairs.specs.Pairs.{fits}
+use Rattle.pairs.proofs.Turns.{fitting, too-short, outside, inside}
 use borrow.Author.Tests.{not-true, not-false}
 use denote.Ref.{now}
 use lib.ListN.{length}
 use mathlib.Core.Path.{_∙_}
 use borrow.Author.Needs.{needs}
-use Rattle.sheet.proofs.pairs.read_pairs.Statement.{statement}
-use Rattle.sheet.proofs.pairs.read_pairs.Tie as tie
+use Rattle.pairs.proofs.read_pairs.Statement.{statement}
+use Rattle.pairs.proofs.read_pairs.Tie as tie
 
 sound :
     (c : tie.Else2)

@@ -1,0 +1,58 @@
+-- The count and the pairs of a sheet, and the verdict on them: refusals 1 and 2.
+use Prim.Native.Nat.{ℕ, zero, suc, _+_, _*_}
+use mathlib.Core.Bool.{Bool, cond, _&&_}
+use mathlib.Core.List.{List}
+use lib.Dec.{leb, eqb}
+use lib.ListN.{length}
+use Rattle.figures.specs.Ranges.{within}
+use Rattle.little_endian.specs.Numbers.{le16}
+use Rattle.pairs.specs.declared.Ceiling.{Ceiling}
+use Rattle.pairs.specs.declared.Verdict.{Verdict}
+use Rattle.pairs.specs.declared.Verdict.the-variants.{Accepted, Refused}
+
+-- an answer: a value, or the number of the rule that is broken and the item that it names
+pub data Answer (A : Type 0) : Type 0 where
+  accepted : A → Answer A
+  refused : ℕ → ℕ → Answer A
+
+-- the ceilings of the terminals: n up to 32, a sheet up to 16,384 bytes
+abbrev pub terminals : Ceiling
+terminals = record { items = 32; bytes = 16384 }
+
+-- "Bytes 0 and 1 give the count n"
+abbrev pub count : List ℕ → ℕ
+count s = le16 s 0
+
+-- "Then n pairs follow, each an offset and a length of 16 bits"
+abbrev pub offset : List ℕ → ℕ → ℕ
+offset s i = le16 s (2 + 4 * i)
+
+abbrev pub size : List ℕ → ℕ → ℕ
+size s i = le16 s (2 + 4 * i + 2)
+
+-- "The first offset is not before the end of the pairs, each later one not before the previous offset plus length"
+abbrev pub earliest : List ℕ → ℕ → ℕ
+earliest s zero = 2 + 4 * count s
+earliest s (suc i) = offset s i + size s i
+
+-- a sheet's bytes and its n within their limits, and the pairs fit in the sheet: otherwise 1
+abbrev pub fits : Ceiling → ℕ → ℕ → Bool
+fits ceiling bytes n = within 2 (ceiling .bytes) bytes && within 1 (ceiling .items) n && leb (2 + 4 * n) bytes
+
+-- pair i keeps the rule of offsets, and its item does not run past the sheet: otherwise 2
+unfoldable pub pairNumber : List ℕ → ℕ → ℕ
+pairNumber s i = cond (leb (earliest s i) (offset s i) && leb (offset s i + size s i) (length s)) 0 2
+
+-- k items in turn from i on, of which the first whose number is not 0 is named; n where there is none
+unfoldable pub inTurn : (ℕ → ℕ) → ℕ → ℕ → ℕ → Answer ℕ
+inTurn number n i zero = accepted n
+inTurn number n i (suc k) = cond (eqb (number i) 0) (inTurn number n (suc i) k) (refused (number i) i)
+
+-- "Order: 1; 2 over all pairs in turn, the first bad one named"
+unfoldable pub pairsVerdict : Ceiling → List ℕ → Answer ℕ
+pairsVerdict ceiling s = cond (fits ceiling (length s) (count s)) (inTurn (pairNumber s) (count s) 0 (count s)) (refused 1 0)
+
+-- what an answer of `verdict` says
+abbrev pub verdictMeans : Verdict → Answer ℕ
+verdictMeans (Accepted n) = accepted n
+verdictMeans (Refused number item) = refused number item
