@@ -1,10 +1,10 @@
 -- What the calls for the terminals' firmware answer, as numbers of 32 bits, and what they leave in a lent slice.
-use Prim.Native.Nat.{ℕ, _+_, _*_, min}
+use Prim.Native.Nat.{ℕ, _*_}
 use mathlib.Core.List.{List, _++_}
 use lib.ListN.{length, drop}
+use Rattle.answer_codes.specs.Codes.{refusalCode, noneCode, answerCode, forceCode}
 use Rattle.figures.specs.declared.site.Site.{Site}
 use Rattle.figures.specs.declared.roof.Roof.{Roof}
-use Rattle.pairs.specs.Pairs as sheets
 use Rattle.sheet_figures.specs.declared.Finding.{Finding}
 use Rattle.sheet_figures.specs.declared.Finding.the-variants.{RoofFound, NoRoof, Refused}
 use Rattle.sheet_figures.specs.declared.Found.{Found}
@@ -13,24 +13,6 @@ use Rattle.standard.specs.Arrangements.{stretch}
 use Rattle.standard.specs.Coefficients.{recommendedFigures}
 use Rattle.standard.specs.Forces as forces
 use Rattle.standard.specs.Stretch.{segments}
-
--- a refusal, as the header has it: 0x80000000 + 65,536 × number + item, and an index above 65,535 shows as 65,535
-unfoldable pub refusalCode : ℕ → ℕ → ℕ
-refusalCode number item = 2147483648 + 65536 * number + min item 65535
-
--- "none" is 0xFFFFFFFF
-abbrev pub noneCode : ℕ
-noneCode = 4294967295
-
--- the count of items, or a refusal
-abbrev pub verdictCode : sheets.Answer ℕ → ℕ
-verdictCode (sheets.accepted n) = n
-verdictCode (sheets.refused number item) = refusalCode number item
-
--- a number, or a refusal of the item
-abbrev pub answerCode : ℕ → Answer → ℕ
-answerCode item (value n) = n
-answerCode item (refused number) = refusalCode number item
 
 -- "then 13, then 11 or 12"; the site has no arrangement, as the header has it: 13
 abbrev pub makeBy : Finding → Site → Roof → ℕ → ℕ → ℕ → ℕ
@@ -61,12 +43,6 @@ sliceFor (Refused number at) s r code old = old
 
 abbrev pub sliceAfter : Found → ℕ → List ℕ → List ℕ
 sliceAfter f code old = sliceFor (f .finding) (f .site) (f .roof) code old
-
--- a force, "none", or a refusal of the item
-abbrev pub forceCode : ℕ → forces.Force → ℕ
-forceCode item (forces.force newtons) = newtons
-forceCode item forces.none = noneCode
-forceCode item (forces.refused number) = refusalCode number item
 
 -- the site has no local forces, as the header has it: "none"
 abbrev pub overhangBy : Finding → Site → Roof → ℕ → ℕ → ℕ

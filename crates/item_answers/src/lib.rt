@@ -1,11 +1,9 @@
 // What the calls on an item of a sheet answer, as numbers of 32 bits, by what was found there.
-mod codes;
-
 ghost use mathlib.Core.Path.{_≡_};
 ghost use lib.ListN.{length};
 ghost use Rattle.item_answers.specs.Calls.{makeCode, sliceAfter, loadCode, overhangCode, guardCode};
-use codes::NONE;
-pub use codes::refusal;
+use answer_codes::NONE;
+use answer_codes::refusal;
 use sheet_figures::Finding;
 use sheet_figures::Found;
 
@@ -21,7 +19,7 @@ pub fn make_at(found: Found, item: usize, code: u8, out: &mut [u32]) -> u32
     match finding {
         Finding::RoofFound => {
             let answer = arrangement::make(found.site, found.roof, code, out);
-            codes::made(answer, item)
+            answer_codes::made(answer, item)
         }
         Finding::NoRoof => refusal(NO_ARRANGEMENT, item),
         Finding::Refused(number, at) => refusal(number, at),
@@ -36,7 +34,7 @@ pub fn load_at(found: Found, item: usize, code: u8, station: u32) -> u32
     match finding {
         Finding::RoofFound => {
             let answer = reading::load_at(found.site, found.roof, code, station);
-            codes::load(answer, item)
+            answer_codes::load(answer, item)
         }
         Finding::NoRoof => refusal(NO_ARRANGEMENT, item),
         Finding::Refused(number, at) => refusal(number, at),
@@ -51,7 +49,7 @@ pub fn overhang_at(found: Found, item: usize, slope: u8) -> u32
     match finding {
         Finding::RoofFound => {
             let answer = local_forces::overhang(found.site, found.roof, slope);
-            codes::force(answer, item)
+            answer_codes::force(answer, item)
         }
         Finding::NoRoof => NONE,
         Finding::Refused(number, at) => refusal(number, at),
@@ -66,7 +64,7 @@ pub fn guard_force_at(found: Found, item: usize, slope: u8) -> u32
     match finding {
         Finding::RoofFound => {
             let answer = local_forces::guard_force(found.site, found.roof, slope);
-            codes::force(answer, item)
+            answer_codes::force(answer, item)
         }
         Finding::NoRoof => NONE,
         Finding::Refused(number, at) => refusal(number, at),

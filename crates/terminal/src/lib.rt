@@ -6,12 +6,13 @@ ghost use Rattle.listing.specs.Listing.{listed, bytesAfter};
 ghost use Rattle.sheet_figures.specs.Find.{found};
 ghost use Rattle.pairs.specs.Pairs.{terminals};
 ghost use Rattle.sheet.specs.Sheet.{sheetVerdict};
-ghost use Rattle.item_answers.specs.Calls.{verdictCode, makeCode, sliceAfter, loadCode, overhangCode, guardCode};
+ghost use Rattle.answer_codes.specs.Codes.{verdictCode};
+ghost use Rattle.item_answers.specs.Calls.{makeCode, sliceAfter, loadCode, overhangCode, guardCode};
+use answer_codes::refusal;
 use item_answers::guard_force_at;
 use item_answers::load_at;
 use item_answers::make_at;
 use item_answers::overhang_at;
-use item_answers::refusal;
 use sheet::Verdict;
 use sheet_figures::find;
 

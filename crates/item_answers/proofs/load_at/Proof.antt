@@ -1,5 +1,5 @@
 use mathlib.Core.Path.{ap, _∙_}
-use Rattle.item_answers.specs.Calls.{answerCode}
+use Rattle.answer_codes.specs.Codes.{answerCode}
 use borrow.Author.Needs.{needs}
 use Rattle.item_answers.proofs.load_at.Statement.{statement}
 use Rattle.item_answers.proofs.load_at.Tie as tie

@@ -1,7 +1,8 @@
 use Rattle.standard.specs.Answers.{Answer}
 use Rattle.item_answers.proofs.Slices.{slice-means}
 use mathlib.Core.Path.{ap, _∙_}
-use Rattle.item_answers.specs.Calls.{answerCode, sliceBy}
+use Rattle.answer_codes.specs.Codes.{answerCode}
+use Rattle.item_answers.specs.Calls.{sliceBy}
 use borrow.Author.Needs.{needs}
 use Rattle.item_answers.proofs.make_at.Statement.{statement}
 use Rattle.item_answers.proofs.make_at.Tie as tie

@@ -2,7 +2,7 @@ use mathlib.Core.Path.{ap, sym, _∙_}
 use denote.Ref.{now}
 use Rattle.sheet.proofs.Kept.{sheet-kept}
 use Rattle.pairs.specs.Pairs.{terminals, verdictMeans}
-use Rattle.item_answers.specs.Calls.{verdictCode}
+use Rattle.answer_codes.specs.Codes.{verdictCode}
 use borrow.Author.Needs.{needs}
 use native.Mathlib.Omega.{arith}
 use Rattle.terminal.proofs.snow_verdict.Statement.{statement}

@@ -4,7 +4,7 @@ ghost use Prim.Native.Nat.{_≤_, min};
 ghost use Rattle.arrangement.specs.Arrangement.{madeMeans, madeCount};
 ghost use Rattle.local_forces.specs.Answers.{forceMeans};
 ghost use Rattle.reading.specs.Reading.{readingMeans};
-ghost use Rattle.item_answers.specs.Calls.{refusalCode, answerCode, forceCode};
+ghost use Rattle.answer_codes.specs.Codes.{refusalCode, answerCode, forceCode};
 use arrangement::Made;
 use local_forces::LocalForce;
 use reading::Reading;

@@ -1,11 +1,11 @@
 use mathlib.Core.Path.{ap, sym, _∙_}
 use Rattle.arrangement.specs.Arrangement.{madeMeans, madeCount}
 use Rattle.arrangement.specs.declared.Made.{Made}
-use Rattle.item_answers.specs.Calls.{answerCode}
+use Rattle.answer_codes.specs.Codes.{answerCode}
 use borrow.Author.Needs.{needs}
 use native.Mathlib.Omega.{arith}
-use Rattle.item_answers.proofs.codes.made.Statement.{statement}
-use Rattle.item_answers.proofs.codes.made.Tie as tie
+use Rattle.answer_codes.proofs.made.Statement.{statement}
+use Rattle.answer_codes.proofs.made.Tie as tie
 
 enum-known-answer : tie.Need-enum-known-answer
 enum-known-answer c = search needs

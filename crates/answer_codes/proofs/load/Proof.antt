@@ -1,10 +1,10 @@
 use mathlib.Core.Path.{ap, sym, _∙_}
 use Rattle.reading.specs.Reading.{readingMeans}
 use Rattle.reading.specs.declared.Reading.{Reading}
-use Rattle.item_answers.specs.Calls.{answerCode}
+use Rattle.answer_codes.specs.Codes.{answerCode}
 use borrow.Author.Needs.{needs}
-use Rattle.item_answers.proofs.codes.load.Statement.{statement}
-use Rattle.item_answers.proofs.codes.load.Tie as tie
+use Rattle.answer_codes.proofs.load.Statement.{statement}
+use Rattle.answer_codes.proofs.load.Tie as tie
 
 enum-known-answer : tie.Need-enum-known-answer
 enum-known-answer c = search needs
