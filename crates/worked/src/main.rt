@@ -1,27 +1,43 @@
-// Runs document 01's figures and many roofs through the maker and the reader, and holds every answer to a second
-// calculation. Writes what it counted.
+// Reads stored cases: figures of document 01, figures outside their ranges, and many roofs. Runs each through the maker, the
+// reader and the local forces, holds every answer to the stored figure or to a second calculation, and writes what it counted.
 mod arrangements;
 mod cases;
-mod document;
-mod edges;
 mod forces;
+mod given;
+mod lines;
 mod readings;
 mod refusals;
 mod report;
-mod roofs;
-mod tally;
+mod state;
+mod words;
+
+use state::State;
+
+// The lines of an open file.
+fn read(state: State, fd: i32) -> State {
+    let mut text = io::large_buffer();
+    let got = libc::read(fd, &mut text);
+    if got <= 0 {
+        os::fail(b"read");
+    }
+    let n = io::count(got, &text);
+    lines::lines(state, &text[..n])
+}
+
+// The lines of the file that an argument names.
+fn file(state: State, i: usize) -> State {
+    let mut name = io::buffer();
+    let n = os::arg(i, &mut name);
+    let fd = os::open_read(&name[..n]);
+    if fd < 0 {
+        os::fail(&name[..n]);
+        return state;
+    }
+    read(state, fd)
+}
 
 fn main() {
-    let mut tally = tally::none();
-    tally = document::figures(tally);
-    tally = forces::figures(tally);
-    tally = refusals::sites(tally);
-    tally = refusals::roofs(tally);
-    tally = cases::kinds(tally);
-    tally = forces::pitches(tally);
-    let mut out = [0u8; 512];
-    let n = report::report(tally, &mut out);
-    if !io::write_all(libc::STDOUT_FILENO, &out[..n]) {
-        os::fail(b"write");
-    }
+    let document = file(lines::nothing(), 1);
+    let refusals = file(document, 2);
+    report::report(file(refusals, 3));
 }

@@ -5,19 +5,22 @@ use Rattle.worked.proofs.cases.codes.Statement.{statement}
 use Rattle.worked.proofs.cases.codes.Tie as tie
 
 abbrev Inv-loop : tie.InvT-loop
-Inv-loop tally₀ site roof i₀ tally i = i ≤ 12
+Inv-loop s₀ i₀ s i = i ≤ 12
 
 abbrev μ-loop : tie.MeasureT-loop
-μ-loop tally₀ site roof i₀ tally i = 12 - i
+μ-loop s₀ i₀ s i = 12 - i
 
 loop-holds : tie.Need-loop-holds Inv-loop μ-loop
 loop-holds c = search needs
 
-array-read-one-code : tie.Need-array-read-one-code Inv-loop μ-loop
-array-read-one-code c = search needs
+code-at-requires : tie.Need-code-at-requires Inv-loop μ-loop
+code-at-requires c κs = search needs
 
 one-code-requires : tie.Need-one-code-requires Inv-loop μ-loop
 one-code-requires c κs = search needs
+
+one-slope-requires : tie.Need-one-slope-requires Inv-loop μ-loop
+one-slope-requires c κs = search needs
 
 add-i : tie.Need-add-i Inv-loop μ-loop
 add-i c = search needs
@@ -38,8 +41,9 @@ codes-spec =
     Inv-loop
     μ-loop
     loop-holds
-    array-read-one-code
+    code-at-requires
     one-code-requires
+    one-slope-requires
     add-i
     loop-less
     loop-again

@@ -5,22 +5,22 @@ use Rattle.worked.proofs.cases.sites.Statement.{statement}
 use Rattle.worked.proofs.cases.sites.Tie as tie
 
 abbrev Inv-loop : tie.InvT-loop
-Inv-loop tally₀ roof i₀ tally i = i ≤ 12
+Inv-loop s₀ sites n i₀ s i = i ≤ n
 
 abbrev μ-loop : tie.MeasureT-loop
-μ-loop tally₀ roof i₀ tally i = 12 - i
+μ-loop s₀ sites n i₀ s i = n - i
 
 loop-holds : tie.Need-loop-holds Inv-loop μ-loop
 loop-holds c = search needs
 
-site-at-requires : tie.Need-site-at-requires Inv-loop μ-loop
-site-at-requires c κs = search needs
+mul-s : tie.Need-mul-s Inv-loop μ-loop
+mul-s c = search needs
+
+array-copy-out-s : tie.Need-array-copy-out-s Inv-loop μ-loop
+array-copy-out-s c = search needs
 
 codes-requires : tie.Need-codes-requires Inv-loop μ-loop
 codes-requires c κs = search needs
-
-slopes-requires : tie.Need-slopes-requires Inv-loop μ-loop
-slopes-requires c κs = search needs
 
 add-i : tie.Need-add-i Inv-loop μ-loop
 add-i c = search needs
@@ -41,9 +41,9 @@ sites-spec =
     Inv-loop
     μ-loop
     loop-holds
-    site-at-requires
+    mul-s
+    array-copy-out-s
     codes-requires
-    slopes-requires
     add-i
     loop-less
     loop-again

@@ -1,19 +1,23 @@
+-- The pitches before this one are compared.
 use Prim.Native.Nat.{_≤_, _-_}
 use borrow.Author.Needs.{needs}
 use Rattle.worked.proofs.forces.pitches.Statement.{statement}
 use Rattle.worked.proofs.forces.pitches.Tie as tie
 
 abbrev Inv-loop : tie.InvT-loop
-Inv-loop tally₀ pitch₀ tally pitch = pitch ≤ 801
+Inv-loop count₀ site width first pitch₀ count pitch = 0 ≤ pitch
 
 abbrev μ-loop : tie.MeasureT-loop
-μ-loop tally₀ pitch₀ tally pitch = 801 - pitch
+μ-loop count₀ site width first pitch₀ count pitch = 801 - pitch
 
 loop-holds : tie.Need-loop-holds Inv-loop μ-loop
 loop-holds c = search needs
 
-widths-requires : tie.Need-widths-requires Inv-loop μ-loop
-widths-requires c κs = search needs
+guarded-requires : tie.Need-guarded-requires Inv-loop μ-loop
+guarded-requires c κs = search needs
+
+slope-requires : tie.Need-slope-requires Inv-loop μ-loop
+slope-requires c κs = search needs
 
 add-pitch : tie.Need-add-pitch Inv-loop μ-loop
 add-pitch c = search needs
@@ -30,4 +34,13 @@ returns c = search needs
 pub pitches-spec : {M : Type 1} → statement M
 pitches-spec =
     tie.close
-    (tie.spec Inv-loop μ-loop loop-holds widths-requires add-pitch loop-less loop-again returns)
+    (tie.spec
+    Inv-loop
+    μ-loop
+    loop-holds
+    guarded-requires
+    slope-requires
+    add-pitch
+    loop-less
+    loop-again
+    returns)

@@ -1,40 +1,54 @@
--- The text before i is put, and the place after it is within the buffer.
+-- The text before at is written.
 use Prim.Native.Nat.{_≤_, _-_}
-use borrow.Author.Needs.{needs}
 use lib.ListN.{length}
-use mathlib.Core.Path.{_≡_}
+use borrow.Author.Needs.{needs}
 use Rattle.worked.proofs.report.filled.Statement.{statement}
 use Rattle.worked.proofs.report.filled.Tie as tie
 
 abbrev Inv-loop : tie.InvT-loop
-Inv-loop out₀ text counts at₀ next₀ i₀ out at next i = (i ≤ length text) × (at ≤ length out) × (next ≤ 14) × (length out ≡ length out₀)
+Inv-loop text counts at₀ next₀ t7 at next = (next ≤ 17) × (at ≤ length text)
 
 abbrev μ-loop : tie.MeasureT-loop
-μ-loop out₀ text counts at₀ next₀ i₀ out at next i = length text - i
+μ-loop text counts at₀ next₀ t7 at next = 17 - next
 
 loop-holds : tie.Need-loop-holds Inv-loop μ-loop
 loop-holds c = search needs
 
-shared-slice-read-letter-put : tie.Need-shared-slice-read-letter-put Inv-loop μ-loop
-shared-slice-read-letter-put c = search needs
+find-requires : tie.Need-find-requires Inv-loop μ-loop
+find-requires c κs = search needs
 
-mul-letter-put : tie.Need-mul-letter-put Inv-loop μ-loop
-mul-letter-put c = search needs
+sub-write-all : tie.Need-sub-write-all Inv-loop μ-loop
+sub-write-all c = search needs
 
-array-read-letter-put : tie.Need-array-read-letter-put Inv-loop μ-loop
-array-read-letter-put c = search needs
+part-write-all-start : tie.Need-part-write-all-start Inv-loop μ-loop
+part-write-all-start c = search needs
 
-letter-put-requires : tie.Need-letter-put-requires Inv-loop μ-loop
-letter-put-requires c κs = search needs
+part-write-all-end : tie.Need-part-write-all-end Inv-loop μ-loop
+part-write-all-end c = search needs
 
-shared-slice-read-following : tie.Need-shared-slice-read-following Inv-loop μ-loop
-shared-slice-read-following c = search needs
+write-all-requires : tie.Need-write-all-requires Inv-loop μ-loop
+write-all-requires c κs = search needs
 
-following-requires : tie.Need-following-requires Inv-loop μ-loop
-following-requires c κs = search needs
+returns : tie.Need-returns Inv-loop μ-loop
+returns c = search needs
 
-add-i : tie.Need-add-i Inv-loop μ-loop
-add-i c = search needs
+mul-wide : tie.Need-mul-wide Inv-loop μ-loop
+mul-wide c = search needs
+
+array-read-wide : tie.Need-array-read-wide Inv-loop μ-loop
+array-read-wide c = search needs
+
+wide-requires : tie.Need-wide-requires Inv-loop μ-loop
+wide-requires c κs = search needs
+
+print-decimal-requires : tie.Need-print-decimal-requires Inv-loop μ-loop
+print-decimal-requires c κs = search needs
+
+add-next : tie.Need-add-next Inv-loop μ-loop
+add-next c = search needs
+
+add-at : tie.Need-add-at Inv-loop μ-loop
+add-at c = search needs
 
 loop-less : tie.Need-loop-less Inv-loop μ-loop
 loop-less c = search needs
@@ -42,11 +56,14 @@ loop-less c = search needs
 loop-again : tie.Need-loop-again Inv-loop μ-loop
 loop-again c = search needs
 
-same-length : tie.Need-same-length Inv-loop μ-loop
-same-length c = search needs
+slice-aggregate-write-all : tie.Need-slice-aggregate-write-all Inv-loop μ-loop
+slice-aggregate-write-all c = search needs
 
-returns : tie.Need-returns Inv-loop μ-loop
-returns c = search needs
+write-all-requires-2 : tie.Need-write-all-requires-2 Inv-loop μ-loop
+write-all-requires-2 c κs = search needs
+
+returns-2 : tie.Need-returns-2 Inv-loop μ-loop
+returns-2 c = search needs
 
 pub filled-spec : {M : Type 1} → statement M
 filled-spec =
@@ -55,14 +72,20 @@ filled-spec =
     Inv-loop
     μ-loop
     loop-holds
-    shared-slice-read-letter-put
-    mul-letter-put
-    array-read-letter-put
-    letter-put-requires
-    shared-slice-read-following
-    following-requires
-    add-i
+    find-requires
+    sub-write-all
+    part-write-all-start
+    part-write-all-end
+    write-all-requires
+    returns
+    mul-wide
+    array-read-wide
+    wide-requires
+    print-decimal-requires
+    add-next
+    add-at
     loop-less
     loop-again
-    same-length
-    returns)
+    slice-aggregate-write-all
+    write-all-requires-2
+    returns-2)
