@@ -1,8 +1,5 @@
 // The maker against the expected segments.
 ghost use Prim.Native.Nat.{_≤_, _<_};
-use super::state::Arrangements;
-use super::state::more;
-use super::state::more_if;
 use arrangement::Made;
 use figures::Roof;
 use figures::Site;
@@ -69,19 +66,4 @@ pub fn number_at(site: Site, roof: Roof, code: u8, place: u32) -> u32 {
     let mut out = [BLANK; 128];
     arrangement::make(site, roof, code, &mut out);
     out[(place % 128) as usize]
-}
-
-// An arrangement of n segments.
-pub fn arrangement(
-    count: Arrangements,
-    site: Site,
-    roof: Roof,
-    code: u8,
-    n: usize,
-) -> Arrangements {
-    Arrangements {
-        all: more(count.all, 1),
-        segments: more(count.segments, n),
-        different: more_if(count.different, made(site, roof, code, 128) != n),
-    }
 }

@@ -1,6 +1,17 @@
 // A roof at every site and in every code, against the second calculation.
+use super::arrangements::made;
+use super::given::site_of;
 use super::refusals::both;
-use super::state::State;
+use super::tally::Tally;
+use super::tally::compared;
+use super::tally::more;
+use super::words::next_line;
+use super::words::word_of;
+use figures::Roof;
+use figures::Site;
+
+// The word of a line that gives one more site.
+pub const SITES: u64 = 0x7369746573;
 
 // The codes of document 01, and some that no roof has: 0 to 4, 10 to 14, 21 and 255.
 fn code_at(i: usize) -> u8 {
@@ -13,61 +24,51 @@ fn code_at(i: usize) -> u8 {
 }
 
 // One code.
-fn one_code(state: State) -> State {
-    let mut s = state;
-    let site = state.site;
-    let roof = state.roof;
-    let code = state.code;
+fn one_code(tally: Tally, site: Site, roof: Roof, code: u8) -> Tally {
+    let mut t = tally;
     let shape = roof.shape;
-    let refusals = state.refusals;
     if !second::exists(shape, site.situation, code) {
-        s.refusals = both(refusals, site, roof, code, code, 13);
-        return s;
+        t.refusals = both(tally.refusals, site, roof, code, code, 13);
+        return t;
     }
     let n = second::segment_count(shape, code);
-    let arrangements = state.arrangements;
-    let readings = state.readings;
-    s.arrangements = super::arrangements::arrangement(arrangements, site, roof, code, n);
-    s.refusals = super::refusals::beyond(refusals, site, roof, code, n);
-    s.readings = super::readings::stations(readings, site, roof, code, n);
-    s
+    let readings = tally.readings;
+    t.arrangements = compared(tally.arrangements, made(site, roof, code, 128) != n);
+    t.segments = more(tally.segments, n);
+    t.refusals = super::refusals::beyond(tally.refusals, site, roof, code, n);
+    t.readings = super::readings::stations(readings, site, roof, code, n);
+    t
 }
 
-// Both forces at the slope that the code numbers: slopes 0 to 3 are those that a roof may have, and two that no roof has.
-fn one_slope(state: State) -> State {
-    if 3 < state.code {
-        return state;
+// Both forces at a slope: slopes 0 to 3 are those that a roof may have, and two that no roof has.
+fn one_slope(tally: Tally, site: Site, roof: Roof, slope: u8) -> Tally {
+    if 3 < slope {
+        return tally;
     }
-    let mut s = state;
-    let forces = state.forces;
-    let site = state.site;
-    let roof = state.roof;
-    s.forces = super::forces::slope(forces, site, roof, state.code);
-    s
+    let mut t = tally;
+    t.forces = super::forces::slope(tally.forces, site, roof, slope);
+    t
 }
 
-// Every code and slope.
-fn codes(state: State) -> State {
-    let mut s = state;
+// Every code, and every slope.
+fn codes(mut tally: Tally, site: Site, roof: Roof) -> Tally {
     let mut i = 0;
     while i < 12 {
-        s.code = code_at(i);
-        s = one_slope(one_code(s));
+        let code = code_at(i);
+        tally = one_slope(one_code(tally, site, roof, code), site, roof, code);
         i += 1;
     }
-    s
+    tally
 }
 
-// Every site.
-pub fn sites(state: State) -> State {
-    let mut s = state;
-    let sites = state.sites;
-    let n = state.count % 17;
-    let mut i = 0;
-    while i < n {
-        s.site = sites[i % 16];
-        s = codes(s);
-        i += 1;
+// Every site of the text.
+pub fn sites(mut tally: Tally, text: &[u8], roof: Roof) -> Tally {
+    let mut at = 0;
+    while at < text.len() {
+        if word_of(text, at) == SITES {
+            tally = codes(tally, site_of(text, at, 1), roof);
+        }
+        at = next_line(text, at);
     }
-    s
+    tally
 }

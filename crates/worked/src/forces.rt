@@ -1,6 +1,5 @@
 // Local forces at the slopes of a roof, and at every pitch, against the second calculation.
-use super::state::Count;
-use super::state::compared;
+use super::tally::compared;
 use figures::Roof;
 use figures::SLOPE_NUMBERS;
 use figures::Shape;
@@ -19,7 +18,7 @@ pub fn newtons(force: LocalForce) -> u32 {
 }
 
 // Both forces at one slope.
-pub fn slope(count: Count, site: Site, roof: Roof, slope: u8) -> Count {
+pub fn slope(count: u64, site: Site, roof: Roof, slope: u8) -> u64 {
     let eave = newtons(local_forces::overhang(site, roof, slope));
     let guard = newtons(local_forces::guard_force(site, roof, slope));
     let one = compared(count, eave != second::overhang(site, roof, slope));
@@ -27,7 +26,7 @@ pub fn slope(count: Count, site: Site, roof: Roof, slope: u8) -> Count {
 }
 
 // A roof of one slope with a guard.
-pub fn guarded(pitch: u32, width: u32) -> Roof {
+fn guarded(pitch: u32, width: u32) -> Roof {
     let slope = Slope {
         pitch: pitch,
         width: width,
@@ -43,7 +42,7 @@ pub fn guarded(pitch: u32, width: u32) -> Roof {
 }
 
 // A guarded slope at every twelfth pitch.
-pub fn pitches(mut count: Count, site: Site, width: u32, first: u32) -> Count {
+pub fn pitches(mut count: u64, site: Site, first: u32, width: u32) -> u64 {
     let mut pitch = first;
     while pitch <= 800 {
         count = slope(count, site, guarded(pitch, width), 1);

@@ -1,6 +1,7 @@
-// The site, the roof and the code that the lines give.
+// The site and the roof that a line gives, from one of its numbers on.
 ghost use Prim.Native.Nat.{_<_, _≤_};
-use super::words::UNREADABLE;
+ghost use lib.ListN.{length};
+use super::words::MISSING;
 use super::words::number;
 use figures::Roof;
 use figures::SLOPE_NUMBERS;
@@ -8,26 +9,28 @@ use figures::Shape;
 use figures::Site;
 use figures::Slope;
 
-// The first numbers of a line.
-pub struct Row {
-    pub a: u32,
-    pub b: u32,
-    pub c: u32,
-    pub d: u32,
-    pub e: u32,
-    pub f: u32,
-    pub g: u32,
+// Seven numbers.
+struct Row {
+    a: u32,
+    b: u32,
+    c: u32,
+    d: u32,
+    e: u32,
+    f: u32,
+    g: u32,
 }
 
-pub fn row_of(line: &[u8]) -> Row {
+fn row_of(text: &[u8], at: usize, first: u32) -> Row
+    requires { ⌜ (at < length (now text)) × (first < 20) ⌝ }
+{
     Row {
-        a: number(line, 1),
-        b: number(line, 2),
-        c: number(line, 3),
-        d: number(line, 4),
-        e: number(line, 5),
-        f: number(line, 6),
-        g: number(line, 7),
+        a: number(text, at, first),
+        b: number(text, at, first + 1),
+        c: number(text, at, first + 2),
+        d: number(text, at, first + 3),
+        e: number(text, at, first + 4),
+        f: number(text, at, first + 5),
+        g: number(text, at, first + 6),
     }
 }
 
@@ -39,7 +42,10 @@ pub fn byte(number: u32) -> u8 {
     (number % 256) as u8
 }
 
-pub fn site_of(row: Row) -> Site {
+pub fn site_of(text: &[u8], at: usize, first: u32) -> Site
+    requires { ⌜ (at < length (now text)) × (first < 20) ⌝ }
+{
+    let row = row_of(text, at, first);
     Site {
         sk: row.a,
         ce: short(row.b),
@@ -96,48 +102,50 @@ fn shape_of(row: Row) -> Shape {
     }
 }
 
-// How many numbers stand in a line of a kind that has n: a multi-span roof has four for each span.
-pub fn numbers_of(kind: u32, n: u32) -> u32 {
+// Whether n numbers are right where a roof of a kind stands behind some others: a multi-span roof has four numbers for each span.
+pub fn fits(kind: u32, before: u32, n: u32) -> bool
+    requires { ⌜ before < 20 ⌝ }
+{
     match kind {
-        2 | 7 => 4,
-        3 | 6 => 7,
-        4 => n - n % 4 + 2,
-        5 => 3,
-        _ => 0,
+        2 | 7 => n == before + 4,
+        3 | 6 => n == before + 7,
+        4 => n % 4 == (before + 2) % 4,
+        5 => n == before + 3,
+        _ => false,
     }
 }
 
-// Number k of the slopes of a multi-span roof, 0 behind the line's spans: of a span the line has both pitches, then both widths.
-fn slope_number(line: &[u8], k: u32) -> u32
-    requires { ⌜ k < 64 ⌝ }
+// Number k of the slopes, 0 behind the line's spans: of a span the line has both pitches, then both widths.
+fn slope_number(text: &[u8], at: usize, first: u32, k: u32) -> u32
+    requires { ⌜ (at < length (now text)) × (first < 20) × (k < 64) ⌝ }
 {
-    let span = 3 + k - k % 4;
-    let place = match k % 4 {
-        1 => span + 2,
-        2 => span + 1,
-        within => span + within,
-    };
-    let number = number(line, place);
-    if number < UNREADABLE { number } else { 0 }
+    let place = first + 2 + k - k % 4 + 2 * (k % 2) + k % 4 / 2;
+    let number = number(text, at, place);
+    if number < MISSING { number } else { 0 }
 }
 
 // The slopes of a multi-span roof; other kinds have none.
-fn slopes_of(kind: u32, line: &[u8]) -> [u32; SLOPE_NUMBERS] {
+fn slopes_of(text: &[u8], at: usize, first: u32, kind: u32) -> [u32; SLOPE_NUMBERS]
+    requires { ⌜ (at < length (now text)) × (first < 20) ⌝ }
+{
     let mut slopes = [0; SLOPE_NUMBERS];
     if kind != 4 {
         return slopes;
     }
     let mut k = 0;
-    while k < SLOPE_NUMBERS {
-        slopes[k] = slope_number(line, k as u32);
+    while k < 64 {
+        slopes[k] = slope_number(text, at, first, k as u32);
         k += 1;
     }
     slopes
 }
 
-pub fn roof_of(row: Row, line: &[u8]) -> Roof {
+pub fn roof_of(text: &[u8], at: usize, first: u32) -> Roof
+    requires { ⌜ (at < length (now text)) × (first < 20) ⌝ }
+{
+    let row = row_of(text, at, first);
     Roof {
         shape: shape_of(row),
-        slopes: slopes_of(row.a, line),
+        slopes: slopes_of(text, at, first, row.a),
     }
 }

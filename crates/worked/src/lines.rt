@@ -1,30 +1,20 @@
-// What the lines say: words that give a site, a roof and a code, and words for what must come out.
+// What a line asks for.
+ghost use Prim.Native.Nat.{_<_};
+ghost use lib.ListN.{length};
+use super::cases::SITES;
 use super::forces::newtons;
-use super::given::Row;
 use super::given::byte;
-use super::given::numbers_of;
+use super::given::fits;
 use super::given::roof_of;
-use super::given::row_of;
 use super::given::site_of;
-use super::state::Arrangements;
-use super::state::Count;
-use super::state::Readings;
-use super::state::State;
-use super::state::compared;
+use super::tally::Tally;
+use super::tally::compared;
 use super::words::MISSING;
+use super::words::next_line;
 use super::words::number;
 use super::words::word_of;
 use figures::Roof;
 use figures::Site;
-
-const SITE: u64 = 0x73697465;
-
-const CODE: u64 = 0x636f6465;
-
-const ROOF: u64 = 0x726f6f66;
-
-// One more site for the roofs that are compared.
-const SITES: u64 = 0x7369746573;
 
 const COMPARE: u64 = 0x636f6d70617265;
 
@@ -42,49 +32,22 @@ const GUARD: u64 = 0x6775617264;
 
 const OUTSIDE: u64 = 0x6f757473696465;
 
-// How many numbers stand behind a word, where the line has n and the first is a roof's kind; 99 where it is no word.
-fn numbers_behind(word: u64, kind: u32, n: u32) -> u32 {
-    match word {
-        SITE | SITES => 6,
-        ROOF | COMPARE => numbers_of(kind, n),
-        CODE | REFUSAL | OUTSIDE => 1,
-        PITCHES | NUMBER | LOAD | OVERHANG | GUARD => 2,
-        _ => 99,
-    }
-}
-
-// Whether a line has its word's numbers, and no others.
-fn readable(word: u64, kind: u32, line: &[u8]) -> bool {
-    let last = number(line, 99);
+// Whether a line has the numbers that its word asks for.
+fn readable(word: u64, text: &[u8], at: usize) -> bool
+    requires { ⌜ at < length (now text) ⌝ }
+{
+    let last = number(text, at, 100);
     if last < MISSING {
         return false;
     }
     let n = last - MISSING;
-    n == numbers_behind(word, kind, n)
-}
-
-// One more site, of at most 16.
-fn with_site(state: State, site: Site) -> State {
-    let mut s = state;
-    let mut sites = state.sites;
-    let count = state.count % 16;
-    sites[count] = site;
-    s.sites = sites;
-    s.count = count + 1;
-    s
-}
-
-// What is given with one more line.
-fn with_line(state: State, word: u64, row: Row, line: &[u8]) -> State {
-    let mut s = state;
     match word {
-        SITE => s.site = site_of(row),
-        CODE => s.code = byte(row.a),
-        ROOF | COMPARE => s.roof = roof_of(row, line),
-        SITES => s = with_site(state, site_of(row)),
-        _ => {}
+        SITES => n == 6,
+        PITCHES => n == 8,
+        COMPARE => fits(number(text, at, 1), 0, n),
+        NUMBER | LOAD | REFUSAL | OVERHANG | GUARD | OUTSIDE => fits(number(text, at, 10), 9, n),
+        _ => false,
     }
-    s
 }
 
 // The answer to a word: a number of the maker's slice, the load at a station, a force at a slope.
@@ -97,98 +60,80 @@ fn answer(word: u64, site: Site, roof: Roof, code: u8, asked: u32) -> u32 {
     }
 }
 
-// Does what a line asks for.
-fn run(state: State, word: u64, row: Row) -> State {
-    let mut s = state;
-    let site = state.site;
-    let roof = state.roof;
-    let code = state.code;
-    let figures = state.figures;
-    let refusals = state.refusals;
-    let forces = state.forces;
+// A case that a line gives whole: two numbers of its word, a site, a code and a roof.
+fn case(tally: Tally, word: u64, text: &[u8], at: usize) -> Tally
+    requires { ⌜ at < length (now text) ⌝ }
+{
+    let mut t = tally;
+    let a = number(text, at, 1);
+    let b = number(text, at, 2);
+    let site = site_of(text, at, 3);
+    let code = byte(number(text, at, 9));
+    let roof = roof_of(text, at, 10);
     match word {
-        SITE | SITES | CODE | ROOF => {}
-        COMPARE => s = super::cases::sites(state),
-        PITCHES => s.forces = super::forces::pitches(forces, site, row.a, row.b),
-        OUTSIDE => s.refusals = super::refusals::outside(refusals, site, roof, byte(row.a)),
-        REFUSAL => s.figures = super::refusals::both(figures, site, roof, code, code, byte(row.a)),
-        _ => s.figures = compared(figures, answer(word, site, roof, code, row.a) != row.b),
+        OUTSIDE => {
+            t.refusals = super::refusals::outside(
+                tally.refusals,
+                site,
+                roof,
+                code,
+                byte(a),
+                byte(b),
+            )
+        }
+        REFUSAL => {
+            t.figures = super::refusals::both(tally.figures, site, roof, code, byte(a), byte(b))
+        }
+        _ => t.figures = compared(tally.figures, answer(word, site, roof, code, a) != b),
     }
-    s
+    t
 }
 
-// One line: comments and empty lines say nothing. What can't be read goes to standard error.
-fn line(state: State, line: &[u8]) -> State {
-    if line.len() == 0 {
-        return state;
+// A line that is readable.
+fn run(tally: Tally, word: u64, text: &[u8], at: usize) -> Tally
+    requires { ⌜ at < length (now text) ⌝ }
+{
+    let mut t = tally;
+    match word {
+        SITES => {}
+        PITCHES => {
+            t.forces = super::forces::pitches(
+                tally.forces,
+                site_of(text, at, 3),
+                number(text, at, 1),
+                number(text, at, 2),
+            )
+        }
+        COMPARE => t = super::cases::sites(tally, text, roof_of(text, at, 1)),
+        _ => t = case(tally, word, text, at),
     }
-    if line[0] == b'#' {
-        return state;
-    }
-    let mut s = state;
-    let lines = state.lines;
-    let word = word_of(line);
-    let row = row_of(line);
-    if !readable(word, row.a, line) {
-        io::write_all(libc::STDERR_FILENO, line);
-        s.lines = compared(lines, true);
-        return s;
-    }
-    s.lines = compared(lines, false);
-    run(with_line(s, word, row, line), word, row)
+    t
 }
 
-// Before the first line.
-pub fn nothing() -> State {
-    let site = Site {
-        sk: 0,
-        ce: 0,
-        ct: 0,
-        cesl: 0,
-        situation: 0,
-        altitude: 0,
-    };
-    let none = Count {
-        all: 0,
-        different: 0,
-    };
-    State {
-        site: site,
-        roof: super::forces::guarded(0, 0),
-        code: 0,
-        sites: [site; 16],
-        count: 0,
-        lines: none,
-        figures: none,
-        arrangements: Arrangements {
-            all: 0,
-            segments: 0,
-            different: 0,
-        },
-        refusals: none,
-        readings: Readings {
-            all: 0,
-            different: 0,
-            low: 0,
-            far: 0,
-            falling: 0,
-            worst: 0,
-        },
-        forces: none,
+// One line: comments and empty lines say nothing.
+fn line(tally: Tally, text: &[u8], at: usize) -> Tally
+    requires { ⌜ at < length (now text) ⌝ }
+{
+    let first = text[at];
+    if (first == b'#') | (first == b'\n') {
+        return tally;
     }
+    let mut t = tally;
+    let word = word_of(text, at);
+    if !readable(word, text, at) {
+        t.lines = compared(tally.lines, true);
+        return t;
+    }
+    t.lines = compared(tally.lines, false);
+    run(t, word, text, at)
 }
 
-// Every line of a text.
-pub fn lines(state: State, text: &[u8]) -> State {
-    let mut s = state;
+// Every line.
+pub fn lines(mut tally: Tally, text: &[u8]) -> Tally {
     let mut at = 0;
     while at < text.len() {
-        let end = bytes::scan::find(text, at, text.len(), b'\n');
-        s = line(s, &text[at..end]);
-        if end == text.len() {
-            break;
-        }
-        at = end + 1;
+        tally = line(tally, text, at);
+        at = next_line(text, at);
     }
-    s
+    tally
 }

@@ -8,36 +8,36 @@ mod lines;
 mod readings;
 mod refusals;
 mod report;
-mod state;
+mod tally;
 mod words;
 
-use state::State;
+use tally::Tally;
 
 // The lines of an open file.
-fn read(state: State, fd: i32) -> State {
+fn read(tally: Tally, fd: i32) -> Tally {
     let mut text = io::large_buffer();
     let got = libc::read(fd, &mut text);
     if got <= 0 {
         os::fail(b"read");
     }
     let n = io::count(got, &text);
-    lines::lines(state, &text[..n])
+    lines::lines(tally, &text[..n])
 }
 
 // The lines of the file that an argument names.
-fn file(state: State, i: usize) -> State {
+fn file(tally: Tally, i: usize) -> Tally {
     let mut name = io::buffer();
     let n = os::arg(i, &mut name);
     let fd = os::open_read(&name[..n]);
     if fd < 0 {
         os::fail(&name[..n]);
-        return state;
+        return tally;
     }
-    read(state, fd)
+    read(tally, fd)
 }
 
 fn main() {
-    let document = file(lines::nothing(), 1);
+    let document = file(tally::nothing(), 1);
     let refusals = file(document, 2);
     report::report(file(refusals, 3));
 }

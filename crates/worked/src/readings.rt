@@ -1,8 +1,9 @@
 // The reader against the load expected at a station, and against the exact load there.
 ghost use Prim.Native.Nat.{_≤_, _<_};
-use super::state::Readings;
-use super::state::more;
-use super::state::more_if;
+use super::tally::DIFFERENT;
+use super::tally::Readings;
+use super::tally::compared;
+use super::tally::more_if;
 use figures::Roof;
 use figures::Site;
 use reading::Reading;
@@ -58,8 +59,7 @@ fn station(count: Readings, site: Site, roof: Roof, code: u8, station: u32) -> R
     let far = second::apart(ground, roof, code, station, load, FAR);
     let falls = falls(site, roof, code, station, load);
     Readings {
-        all: more(count.all, 1),
-        different: more_if(count.different, load != expected),
+        loads: compared(count.loads, load != expected),
         low: more_if(count.low, low),
         far: more_if(count.far, far),
         falling: more_if(count.falling, falls),
@@ -68,12 +68,11 @@ fn station(count: Readings, site: Site, roof: Roof, code: u8, station: u32) -> R
 }
 
 // A place along a length, scattered by the count of readings before the segment and this one.
-fn scattered(length: u32, count: u32) -> u32
+fn scattered(length: u32, count: u64) -> u32
     requires { ⌜ 0 < length ⌝ }
     ensures { λ r. ⌜ r ≤ length ⌝ }
 {
-    let before = if 4 <= count { count - 4 } else { 0 };
-    let place = (before as u64) * 7_919 % (length as u64);
+    let place = (count % DIFFERENT + DIFFERENT - 4) % DIFFERENT * 7_919 % (length as u64);
     if place < length as u64 {
         place as u32
     } else {
@@ -82,7 +81,7 @@ fn scattered(length: u32, count: u32) -> u32
 }
 
 // Station k of a segment: its ends, a quarter millimetre beside them, and two places between.
-fn station_at(segment: Segment, k: usize, count: u32) -> u32 {
+fn station_at(segment: Segment, k: usize, count: u64) -> u32 {
     if segment.end <= segment.start {
         return segment.start;
     }
@@ -102,7 +101,7 @@ pub fn stations(mut count: Readings, site: Site, roof: Roof, code: u8, n: usize)
     let mut i = 0;
     while i < 6 * n {
         let segment = second::segment_at(roof, code, site.sk, i / 6);
-        let at = station_at(segment, i % 6, count.all);
+        let at = station_at(segment, i % 6, count.loads);
         count = station(count, site, roof, code, at);
         i += 1;
     }

@@ -3,15 +3,13 @@ ghost use Prim.Native.Nat.{_≤_};
 use super::arrangements::made;
 use super::forces::newtons;
 use super::readings::load;
-use super::state::Count;
-use super::state::State;
-use super::state::compared;
+use super::tally::compared;
 use figures::Roof;
 use figures::Site;
 
 // The maker refuses with room for every segment, and in another code before the slice is looked at; the reader at the roof's start, and
 // in another code far from any roof.
-pub fn both(count: Count, site: Site, roof: Roof, code: u8, other: u8, number: u8) -> Count {
+pub fn both(count: u64, site: Site, roof: Roof, code: u8, other: u8, number: u8) -> u64 {
     let making = super::arrangements::REFUSED + number as usize;
     let reading = super::readings::REFUSED + number as u32;
     let full = made(site, roof, code, 128) != making;
@@ -23,15 +21,15 @@ pub fn both(count: Count, site: Site, roof: Roof, code: u8, other: u8, number: u
 
 // Figures outside their ranges: the same number from every call, also where the code, the slice, the station or the slope breaks a
 // later rule.
-pub fn outside(count: Count, site: Site, roof: Roof, number: u8) -> Count {
+pub fn outside(count: u64, site: Site, roof: Roof, code: u8, other: u8, number: u8) -> u64 {
     let refused = super::readings::REFUSED + number as u32;
     let eave = newtons(local_forces::overhang(site, roof, 1)) != refused;
     let guard = newtons(local_forces::guard_force(site, roof, 9)) != refused;
-    compared(both(count, site, roof, 2, 99, number), eave | guard)
+    compared(both(count, site, roof, code, other, number), eave | guard)
 }
 
 // A code that exists, of n segments: refused in a slice one number too short, and past the roof's end.
-pub fn beyond(count: Count, site: Site, roof: Roof, code: u8, n: usize) -> Count
+pub fn beyond(count: u64, site: Site, roof: Roof, code: u8, n: usize) -> u64
     requires { ⌜ n ≤ 32 ⌝ }
 {
     let short = made(site, roof, code, (4 * n + 127) % 128) != super::arrangements::REFUSED + 11;

@@ -1,14 +1,30 @@
-// A line of the stored cases: a word, and whole numbers behind it, each after one blank.
-ghost use Prim.Native.Nat.{_≤_};
+// The words and the whole numbers of a line, which begins at a place of a text. Blanks stand between them.
+ghost use Prim.Native.Nat.{_≤_, _<_};
+ghost use lib.ListN.{length};
 use second::NO_FORCE;
 
-// No number.
-pub const UNREADABLE: u32 = 4_000_000_000;
+// In the place of a number: nothing yet, and a word.
+const EMPTY: u32 = 4_000_000_000;
+
+const WORD: u32 = 4_000_000_001;
 
 // In the place of a number that a line does not have: this, and how many it has.
-pub const MISSING: u32 = 4_000_000_001;
+pub const MISSING: u32 = 4_000_000_002;
 
-// A word with one more letter; the letters are its digits. It has at most eight.
+// Where the line after this one begins.
+pub fn next_line(text: &[u8], at: usize) -> usize
+    requires { ⌜ at < length (now text) ⌝ }
+    ensures { λ r. ⌜ (at < r) × (r ≤ length (now (text .entry))) ⌝ }
+{
+    let end = bytes::scan::find(text, at, text.len(), b'\n');
+    if end < text.len() {
+        end + 1
+    } else {
+        text.len()
+    }
+}
+
+// A word with one more letter: the letters are its digits. It has at most eight.
 fn with_letter(word: u64, letter: u8) -> u64 {
     if word < 72_057_594_037_927_936 {
         256 * word + letter as u64
@@ -17,26 +33,61 @@ fn with_letter(word: u64, letter: u8) -> u64 {
     }
 }
 
-// The word of a line.
-pub fn word_of(line: &[u8]) -> u64 {
+// The first word of a line.
+pub fn word_of(text: &[u8], at: usize) -> u64
+    requires { ⌜ at < length (now text) ⌝ }
+{
     let mut word = 0;
-    let mut i = 0;
-    while i < line.len() {
-        if line[i] == b' ' {
+    let mut i = at;
+    while i < text.len() {
+        if text[i] <= b' ' {
             return word;
         }
-        word = with_letter(word, line[i]);
+        word = with_letter(word, text[i]);
         i += 1;
     }
     word
 }
 
-// How many blanks there are with one more byte, up to 99.
-fn blanks(n: u32, byte: u8) -> u32
+// A number with one more byte: a digit, or - for no force. A blank or the line's end is the place before the next number.
+fn with_byte(number: u32, byte: u8) -> u32 {
+    if byte <= b' ' {
+        return EMPTY;
+    }
+    if number == EMPTY {
+        return first_byte(byte);
+    }
+    if number < 100_000_000 {
+        return digit(number, byte);
+    }
+    WORD
+}
+
+fn digit(number: u32, byte: u8) -> u32
+    requires { ⌜ number < 100000000 ⌝ }
+{
+    if b'0' <= byte {
+        if byte <= b'9' {
+            return 10 * number + (byte - b'0') as u32;
+        }
+    }
+    WORD
+}
+
+fn first_byte(byte: u8) -> u32 {
+    if byte == b'-' {
+        NO_FORCE
+    } else {
+        digit(0, byte)
+    }
+}
+
+// How many numbers there are, up to 99, with one that ends before a byte.
+fn with_number(n: u32, number: u32, byte: u8) -> u32
     requires { ⌜ n ≤ 99 ⌝ }
     ensures { λ r. ⌜ r ≤ 99 ⌝ }
 {
-    if byte == b' ' {
+    if (byte <= b' ') & (number != EMPTY) & (number != WORD) {
         if n < 99 {
             return n + 1;
         }
@@ -44,46 +95,24 @@ fn blanks(n: u32, byte: u8) -> u32
     n
 }
 
-// A number with one more byte behind the word: a digit, - for no force, or the blank before the next number.
-fn with_byte(number: u32, byte: u8) -> u32 {
-    if number == UNREADABLE {
-        return UNREADABLE;
-    }
-    if byte == b' ' {
-        return 0;
-    }
-    if (byte == b'-') & (number == 0) {
-        return NO_FORCE;
-    }
-    if b'0' <= byte {
-        if byte <= b'9' {
-            if number < 100_000_000 {
-                return 10 * number + (byte - b'0') as u32;
-            }
-        }
-    }
-    UNREADABLE
-}
-
 // Number k of a line, from 1.
-pub fn number(line: &[u8], k: u32) -> u32 {
-    let mut number = 0;
+pub fn number(text: &[u8], at: usize, k: u32) -> u32
+    requires { ⌜ at < length (now text) ⌝ }
+{
+    let mut number = EMPTY;
     let mut n = 0;
-    let mut i = 0;
-    while i < line.len() {
-        n = blanks(n, line[i]);
-        if k < n {
+    let mut i = at;
+    while i < text.len() {
+        let byte = text[i];
+        n = with_number(n, number, byte);
+        if n == k {
             return number;
         }
-        number = if n == 0 {
-            0
-        } else {
-            with_byte(number, line[i])
-        };
+        if byte == b'\n' {
+            return MISSING + n;
+        }
+        number = with_byte(number, byte);
         i += 1;
-    }
-    if (k == n) | (number == UNREADABLE) {
-        return number;
     }
     MISSING + n
 }

@@ -1,29 +1,30 @@
--- The sites before i are tried.
+-- The sites before at are tried.
 use Prim.Native.Nat.{_≤_, _-_}
+use lib.ListN.{length}
 use borrow.Author.Needs.{needs}
 use Rattle.worked.proofs.cases.sites.Statement.{statement}
 use Rattle.worked.proofs.cases.sites.Tie as tie
 
 abbrev Inv-loop : tie.InvT-loop
-Inv-loop s₀ sites n i₀ s i = i ≤ n
+Inv-loop tally₀ text roof at₀ tally at = at ≤ length text
 
 abbrev μ-loop : tie.MeasureT-loop
-μ-loop s₀ sites n i₀ s i = n - i
+μ-loop tally₀ text roof at₀ tally at = length text - at
 
 loop-holds : tie.Need-loop-holds Inv-loop μ-loop
 loop-holds c = search needs
 
-mul-s : tie.Need-mul-s Inv-loop μ-loop
-mul-s c = search needs
+word-of-requires : tie.Need-word-of-requires Inv-loop μ-loop
+word-of-requires c κs = search needs
 
-array-copy-out-s : tie.Need-array-copy-out-s Inv-loop μ-loop
-array-copy-out-s c = search needs
+site-of-requires : tie.Need-site-of-requires Inv-loop μ-loop
+site-of-requires c κs = search needs
 
 codes-requires : tie.Need-codes-requires Inv-loop μ-loop
 codes-requires c κs = search needs
 
-add-i : tie.Need-add-i Inv-loop μ-loop
-add-i c = search needs
+next-line-requires : tie.Need-next-line-requires Inv-loop μ-loop
+next-line-requires c κs = search needs
 
 loop-less : tie.Need-loop-less Inv-loop μ-loop
 loop-less c = search needs
@@ -41,10 +42,10 @@ sites-spec =
     Inv-loop
     μ-loop
     loop-holds
-    mul-s
-    array-copy-out-s
+    word-of-requires
+    site-of-requires
     codes-requires
-    add-i
+    next-line-requires
     loop-less
     loop-again
     returns)

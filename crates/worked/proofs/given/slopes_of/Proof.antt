@@ -5,10 +5,10 @@ use Rattle.worked.proofs.given.slopes_of.Statement.{statement}
 use Rattle.worked.proofs.given.slopes_of.Tie as tie
 
 abbrev Inv-loop : tie.InvT-loop
-Inv-loop kind line slopes₀ k₀ slopes k = k ≤ 64
+Inv-loop text at first kind slopes₀ k₀ slopes k = k ≤ 64
 
 abbrev μ-loop : tie.MeasureT-loop
-μ-loop kind line slopes₀ k₀ slopes k = 64 - k
+μ-loop text at first kind slopes₀ k₀ slopes k = 64 - k
 
 returns : tie.Need-returns Inv-loop μ-loop
 returns c = search needs

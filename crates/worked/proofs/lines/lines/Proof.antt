@@ -6,31 +6,19 @@ use Rattle.worked.proofs.lines.lines.Statement.{statement}
 use Rattle.worked.proofs.lines.lines.Tie as tie
 
 abbrev Inv-loop : tie.InvT-loop
-Inv-loop text s₀ at₀ s at = at ≤ length text
+Inv-loop tally₀ text at₀ tally at = at ≤ length text
 
 abbrev μ-loop : tie.MeasureT-loop
-μ-loop text s₀ at₀ s at = length text - at
+μ-loop tally₀ text at₀ tally at = length text - at
 
 loop-holds : tie.Need-loop-holds Inv-loop μ-loop
 loop-holds c = search needs
 
-find-requires : tie.Need-find-requires Inv-loop μ-loop
-find-requires c κs = search needs
-
-sub-line : tie.Need-sub-line Inv-loop μ-loop
-sub-line c = search needs
-
-part-line-start : tie.Need-part-line-start Inv-loop μ-loop
-part-line-start c = search needs
-
-part-line-end : tie.Need-part-line-end Inv-loop μ-loop
-part-line-end c = search needs
-
 line-requires : tie.Need-line-requires Inv-loop μ-loop
 line-requires c κs = search needs
 
-add-at : tie.Need-add-at Inv-loop μ-loop
-add-at c = search needs
+next-line-requires : tie.Need-next-line-requires Inv-loop μ-loop
+next-line-requires c κs = search needs
 
 loop-less : tie.Need-loop-less Inv-loop μ-loop
 loop-less c = search needs
@@ -41,9 +29,6 @@ loop-again c = search needs
 returns : tie.Need-returns Inv-loop μ-loop
 returns c = search needs
 
-returns-2 : tie.Need-returns-2 Inv-loop μ-loop
-returns-2 c = search needs
-
 pub lines-spec : {M : Type 1} → statement M
 lines-spec =
     tie.close
@@ -51,13 +36,8 @@ lines-spec =
     Inv-loop
     μ-loop
     loop-holds
-    find-requires
-    sub-line
-    part-line-start
-    part-line-end
     line-requires
-    add-at
+    next-line-requires
     loop-less
     loop-again
-    returns
-    returns-2)
+    returns)

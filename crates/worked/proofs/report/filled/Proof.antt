@@ -6,10 +6,10 @@ use Rattle.worked.proofs.report.filled.Statement.{statement}
 use Rattle.worked.proofs.report.filled.Tie as tie
 
 abbrev Inv-loop : tie.InvT-loop
-Inv-loop text counts at₀ next₀ t7 at next = (next ≤ 17) × (at ≤ length text)
+Inv-loop text counts at₀ i₀ t7 at i = (i ≤ 17) × (at ≤ length text)
 
 abbrev μ-loop : tie.MeasureT-loop
-μ-loop text counts at₀ next₀ t7 at next = 17 - next
+μ-loop text counts at₀ i₀ t7 at i = 17 - i
 
 loop-holds : tie.Need-loop-holds Inv-loop μ-loop
 loop-holds c = search needs
@@ -29,26 +29,20 @@ part-write-all-end c = search needs
 write-all-requires : tie.Need-write-all-requires Inv-loop μ-loop
 write-all-requires c κs = search needs
 
-returns : tie.Need-returns Inv-loop μ-loop
-returns c = search needs
+mul-print-decimal : tie.Need-mul-print-decimal Inv-loop μ-loop
+mul-print-decimal c = search needs
 
-mul-wide : tie.Need-mul-wide Inv-loop μ-loop
-mul-wide c = search needs
-
-array-read-wide : tie.Need-array-read-wide Inv-loop μ-loop
-array-read-wide c = search needs
-
-wide-requires : tie.Need-wide-requires Inv-loop μ-loop
-wide-requires c κs = search needs
+array-read-print-decimal : tie.Need-array-read-print-decimal Inv-loop μ-loop
+array-read-print-decimal c = search needs
 
 print-decimal-requires : tie.Need-print-decimal-requires Inv-loop μ-loop
 print-decimal-requires c κs = search needs
 
-add-next : tie.Need-add-next Inv-loop μ-loop
-add-next c = search needs
+after-requires : tie.Need-after-requires Inv-loop μ-loop
+after-requires c κs = search needs
 
-add-at : tie.Need-add-at Inv-loop μ-loop
-add-at c = search needs
+add-i : tie.Need-add-i Inv-loop μ-loop
+add-i c = search needs
 
 loop-less : tie.Need-loop-less Inv-loop μ-loop
 loop-less c = search needs
@@ -62,8 +56,8 @@ slice-aggregate-write-all c = search needs
 write-all-requires-2 : tie.Need-write-all-requires-2 Inv-loop μ-loop
 write-all-requires-2 c κs = search needs
 
-returns-2 : tie.Need-returns-2 Inv-loop μ-loop
-returns-2 c = search needs
+returns : tie.Need-returns Inv-loop μ-loop
+returns c = search needs
 
 pub filled-spec : {M : Type 1} → statement M
 filled-spec =
@@ -77,15 +71,13 @@ filled-spec =
     part-write-all-start
     part-write-all-end
     write-all-requires
-    returns
-    mul-wide
-    array-read-wide
-    wide-requires
+    mul-print-decimal
+    array-read-print-decimal
     print-decimal-requires
-    add-next
-    add-at
+    after-requires
+    add-i
     loop-less
     loop-again
     slice-aggregate-write-all
     write-all-requires-2
-    returns-2)
+    returns)

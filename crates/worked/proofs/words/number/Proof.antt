@@ -6,25 +6,28 @@ use Rattle.worked.proofs.words.number.Statement.{statement}
 use Rattle.worked.proofs.words.number.Tie as tie
 
 abbrev Inv-loop : tie.InvT-loop
-Inv-loop line k number₀ n₀ i₀ number n i = (i ≤ length line) × (n ≤ 99)
+Inv-loop text at k number₀ n₀ i₀ number n i = (i ≤ length text) × (n ≤ 99)
 
 abbrev μ-loop : tie.MeasureT-loop
-μ-loop line k number₀ n₀ i₀ number n i = length line - i
+μ-loop text at k number₀ n₀ i₀ number n i = length text - i
 
 loop-holds : tie.Need-loop-holds Inv-loop μ-loop
 loop-holds c = search needs
 
-shared-slice-read-blanks : tie.Need-shared-slice-read-blanks Inv-loop μ-loop
-shared-slice-read-blanks c = search needs
+shared-slice-read-byte : tie.Need-shared-slice-read-byte Inv-loop μ-loop
+shared-slice-read-byte c = search needs
 
-blanks-requires : tie.Need-blanks-requires Inv-loop μ-loop
-blanks-requires c κs = search needs
+with-number-requires : tie.Need-with-number-requires Inv-loop μ-loop
+with-number-requires c κs = search needs
 
 returns : tie.Need-returns Inv-loop μ-loop
 returns c = search needs
 
-shared-slice-read-with-byte : tie.Need-shared-slice-read-with-byte Inv-loop μ-loop
-shared-slice-read-with-byte c = search needs
+add-result : tie.Need-add-result Inv-loop μ-loop
+add-result c = search needs
+
+returns-2 : tie.Need-returns-2 Inv-loop μ-loop
+returns-2 c = search needs
 
 with-byte-requires : tie.Need-with-byte-requires Inv-loop μ-loop
 with-byte-requires c κs = search needs
@@ -38,11 +41,8 @@ loop-less c = search needs
 loop-again : tie.Need-loop-again Inv-loop μ-loop
 loop-again c = search needs
 
-returns-2 : tie.Need-returns-2 Inv-loop μ-loop
-returns-2 c = search needs
-
-add-result : tie.Need-add-result Inv-loop μ-loop
-add-result c = search needs
+add-result-2 : tie.Need-add-result-2 Inv-loop μ-loop
+add-result-2 c = search needs
 
 returns-3 : tie.Need-returns-3 Inv-loop μ-loop
 returns-3 c = search needs
@@ -54,14 +54,14 @@ number-spec =
     Inv-loop
     μ-loop
     loop-holds
-    shared-slice-read-blanks
-    blanks-requires
+    shared-slice-read-byte
+    with-number-requires
     returns
-    shared-slice-read-with-byte
+    add-result
+    returns-2
     with-byte-requires
     add-i
     loop-less
     loop-again
-    returns-2
-    add-result
+    add-result-2
     returns-3)

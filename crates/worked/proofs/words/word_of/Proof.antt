@@ -6,10 +6,10 @@ use Rattle.worked.proofs.words.word_of.Statement.{statement}
 use Rattle.worked.proofs.words.word_of.Tie as tie
 
 abbrev Inv-loop : tie.InvT-loop
-Inv-loop line word₀ i₀ word i = i ≤ length line
+Inv-loop text at word₀ i₀ word i = i ≤ length text
 
 abbrev μ-loop : tie.MeasureT-loop
-μ-loop line word₀ i₀ word i = length line - i
+μ-loop text at word₀ i₀ word i = length text - i
 
 loop-holds : tie.Need-loop-holds Inv-loop μ-loop
 loop-holds c = search needs
