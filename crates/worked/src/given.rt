@@ -1,5 +1,5 @@
 // The site and the roof that a line gives, from one of its numbers on.
-ghost use Prim.Native.Nat.{_<_, _≤_};
+ghost use Prim.Native.Nat.{_<_};
 ghost use lib.ListN.{length};
 use super::words::MISSING;
 use super::words::number;

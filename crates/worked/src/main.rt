@@ -13,14 +13,16 @@ mod words;
 
 use tally::Tally;
 
-// The lines of an open file.
+// The lines of an open file. What lies past the room for it is not read, which is said and shows in the counts.
 fn read(tally: Tally, fd: i32) -> Tally {
     let mut text = io::large_buffer();
-    let got = libc::read(fd, &mut text);
-    if got <= 0 {
+    let n = io::read_full(fd, &mut text);
+    if n == 0 {
         os::fail(b"read");
     }
-    let n = io::count(got, &text);
+    if n == text.len() {
+        io::write_all(libc::STDERR_FILENO, b"read: the file is too long\n");
+    }
     lines::lines(tally, &text[..n])
 }
 
