@@ -27,14 +27,16 @@ fn expected(site: Site, roof: Roof, code: u8, answer: usize, place: usize) -> u3
     if (answer <= place / 4) | (32 < answer) {
         return BLANK;
     }
-    let ground = second::ground_of(site, code);
     let segment = second::segment_at(roof, code, site.sk, place / 4);
-    match place % 4 {
-        0 => segment.start,
-        1 => segment.end,
-        2 => second::load_on(ground, segment, segment.start),
-        _ => second::load_on(ground, segment, segment.end),
+    let station = if place % 2 == 0 {
+        segment.start
+    } else {
+        segment.end
+    };
+    if place % 4 < 2 {
+        return station;
     }
+    second::load_on(second::ground_of(site, code), segment, station)
 }
 
 // Whether the slice holds other numbers.

@@ -1,11 +1,12 @@
 // A roof at every site and in every code, against the second calculation.
 use super::arrangements::made;
+use super::forces::slope;
 use super::given::site_of;
 use super::refusals::both;
 use super::tally::Tally;
 use super::tally::compared;
 use super::tally::more;
-use super::words::next_line;
+use super::words::behind;
 use super::words::word_of;
 use figures::Roof;
 use figures::Site;
@@ -40,22 +41,13 @@ fn one_code(tally: Tally, site: Site, roof: Roof, code: u8) -> Tally {
     t
 }
 
-// Both forces at a slope: slopes 0 to 3 are those that a roof may have, and two that no roof has.
-fn one_slope(tally: Tally, site: Site, roof: Roof, slope: u8) -> Tally {
-    if 3 < slope {
-        return tally;
-    }
-    let mut t = tally;
-    t.forces = super::forces::slope(tally.forces, site, roof, slope);
-    t
-}
-
-// Every code, and every slope.
+// Every code, and the slopes 0 to 3: those that a roof may have, and two that no roof has.
 fn codes(mut tally: Tally, site: Site, roof: Roof) -> Tally {
     let mut i = 0;
     while i < 12 {
         let code = code_at(i);
-        tally = one_slope(one_code(tally, site, roof, code), site, roof, code);
+        tally = one_code(tally, site, roof, code);
+        tally.forces = slope(tally.forces, site, roof, code);
         i += 1;
     }
     tally
@@ -68,7 +60,7 @@ pub fn sites(mut tally: Tally, text: &[u8], roof: Roof) -> Tally {
         if word_of(text, at) == SITES {
             tally = codes(tally, site_of(text, at, 1), roof);
         }
-        at = next_line(text, at);
+        at = behind(text, at, b'\n');
     }
     tally
 }

@@ -17,8 +17,11 @@ pub fn newtons(force: LocalForce) -> u32 {
     }
 }
 
-// Both forces at one slope.
+// Both forces at one of the slopes 0 to 3.
 pub fn slope(count: u64, site: Site, roof: Roof, slope: u8) -> u64 {
+    if 3 < slope {
+        return count;
+    }
     let eave = newtons(local_forces::overhang(site, roof, slope));
     let guard = newtons(local_forces::guard_force(site, roof, slope));
     let one = compared(count, eave != second::overhang(site, roof, slope));

@@ -24,13 +24,13 @@ fn row_of(text: &[u8], at: usize, first: u32) -> Row
     requires { ⌜ (at < length (now text)) × (first < 20) ⌝ }
 {
     Row {
-        a: number(text, at, first),
-        b: number(text, at, first + 1),
-        c: number(text, at, first + 2),
-        d: number(text, at, first + 3),
-        e: number(text, at, first + 4),
-        f: number(text, at, first + 5),
-        g: number(text, at, first + 6),
+        a: number(text, at, first, 0),
+        b: number(text, at, first, 1),
+        c: number(text, at, first, 2),
+        d: number(text, at, first, 3),
+        e: number(text, at, first, 4),
+        f: number(text, at, first, 5),
+        g: number(text, at, first, 6),
     }
 }
 
@@ -119,8 +119,7 @@ pub fn fits(kind: u32, before: u32, n: u32) -> bool
 fn slope_number(text: &[u8], at: usize, first: u32, k: u32) -> u32
     requires { ⌜ (at < length (now text)) × (first < 20) × (k < 64) ⌝ }
 {
-    let place = first + 2 + k - k % 4 + 2 * (k % 2) + k % 4 / 2;
-    let number = number(text, at, place);
+    let number = number(text, at, first, 2 + k - k % 4 + 2 * (k % 2) + k % 4 / 2);
     if number < MISSING { number } else { 0 }
 }
 

@@ -10,7 +10,7 @@ use super::given::site_of;
 use super::tally::Tally;
 use super::tally::compared;
 use super::words::MISSING;
-use super::words::next_line;
+use super::words::behind;
 use super::words::number;
 use super::words::word_of;
 use figures::Roof;
@@ -36,7 +36,7 @@ const OUTSIDE: u64 = 0x6f757473696465;
 fn readable(word: u64, text: &[u8], at: usize) -> bool
     requires { ⌜ at < length (now text) ⌝ }
 {
-    let last = number(text, at, 100);
+    let last = number(text, at, 100, 0);
     if last < MISSING {
         return false;
     }
@@ -44,8 +44,8 @@ fn readable(word: u64, text: &[u8], at: usize) -> bool
     match word {
         SITES => n == 6,
         PITCHES => n == 8,
-        COMPARE => fits(number(text, at, 1), 0, n),
-        NUMBER | LOAD | REFUSAL | OVERHANG | GUARD | OUTSIDE => fits(number(text, at, 10), 9, n),
+        COMPARE => fits(number(text, at, 1, 0), 0, n),
+        NUMBER | LOAD | REFUSAL | OVERHANG | GUARD | OUTSIDE => fits(number(text, at, 10, 0), 9, n),
         _ => false,
     }
 }
@@ -65,10 +65,10 @@ fn case(tally: Tally, word: u64, text: &[u8], at: usize) -> Tally
     requires { ⌜ at < length (now text) ⌝ }
 {
     let mut t = tally;
-    let a = number(text, at, 1);
-    let b = number(text, at, 2);
+    let a = number(text, at, 1, 0);
+    let b = number(text, at, 2, 0);
     let site = site_of(text, at, 3);
-    let code = byte(number(text, at, 9));
+    let code = byte(number(text, at, 9, 0));
     let roof = roof_of(text, at, 10);
     match word {
         OUTSIDE => {
@@ -100,8 +100,8 @@ fn run(tally: Tally, word: u64, text: &[u8], at: usize) -> Tally
             t.forces = super::forces::pitches(
                 tally.forces,
                 site_of(text, at, 3),
-                number(text, at, 1),
-                number(text, at, 2),
+                number(text, at, 1, 0),
+                number(text, at, 2, 0),
             )
         }
         COMPARE => t = super::cases::sites(tally, text, roof_of(text, at, 1)),
@@ -110,7 +110,7 @@ fn run(tally: Tally, word: u64, text: &[u8], at: usize) -> Tally
     t
 }
 
-// One line: comments and empty lines say nothing.
+// One line: comments and empty lines say nothing. One that can't be read goes to standard error.
 fn line(tally: Tally, text: &[u8], at: usize) -> Tally
     requires { ⌜ at < length (now text) ⌝ }
 {
@@ -121,6 +121,7 @@ fn line(tally: Tally, text: &[u8], at: usize) -> Tally
     let mut t = tally;
     let word = word_of(text, at);
     if !readable(word, text, at) {
+        io::write_all(libc::STDERR_FILENO, &text[at..behind(text, at, b'\n')]);
         t.lines = compared(tally.lines, true);
         return t;
     }
@@ -133,7 +134,7 @@ pub fn lines(mut tally: Tally, text: &[u8]) -> Tally {
     let mut at = 0;
     while at < text.len() {
         tally = line(tally, text, at);
-        at = next_line(text, at);
+        at = behind(text, at, b'\n');
     }
     tally
 }

@@ -3,7 +3,7 @@ ghost use Prim.Native.Nat.{_≤_, _<_};
 use super::tally::DIFFERENT;
 use super::tally::Readings;
 use super::tally::compared;
-use super::tally::more_if;
+use super::tally::more;
 use figures::Roof;
 use figures::Site;
 use reading::Reading;
@@ -60,9 +60,9 @@ fn station(count: Readings, site: Site, roof: Roof, code: u8, station: u32) -> R
     let falls = falls(site, roof, code, station, load);
     Readings {
         loads: compared(count.loads, load != expected),
-        low: more_if(count.low, low),
-        far: more_if(count.far, far),
-        falling: more_if(count.falling, falls),
+        low: more(count.low, low as usize),
+        far: more(count.far, far as usize),
+        falling: more(count.falling, falls as usize),
         worst: worst_of(ground, roof, code, station, load, count.worst),
     }
 }

@@ -1,7 +1,7 @@
 // The counts as text.
-ghost use Prim.Native.Nat.{_≤_};
 use super::tally::DIFFERENT;
 use super::tally::Tally;
+use super::words::behind;
 
 fn counts_of(t: Tally) -> [u64; 17] {
     let r = t.readings;
@@ -26,23 +26,16 @@ fn counts_of(t: Tally) -> [u64; 17] {
     ]
 }
 
-// The place after another in a text.
-fn after(end: usize, length: usize) -> usize
-    ensures { λ r. ⌜ r ≤ length ⌝ }
-{
-    if end < length { end + 1 } else { length }
-}
-
-// The text, with the counts in turn for each #.
+// The text, with the counts in turn for each #, the last of which ends it.
 fn filled(counts: [u64; 17], text: &[u8]) {
-    let mut at = 0;
     let mut i = 0;
-    while i < 17 {
-        let end = bytes::scan::find(text, at, text.len(), b'#');
-        io::write_all(libc::STDOUT_FILENO, &text[at..end]);
-        io::print_decimal(libc::STDOUT_FILENO, counts[i]);
-        at = after(end, text.len());
+    let mut at = 0;
+    while at < text.len() {
+        let end = behind(text, at, b'#');
+        io::write_all(libc::STDOUT_FILENO, &text[at..end - 1]);
+        io::print_decimal(libc::STDOUT_FILENO, counts[i % 17]);
         i += 1;
+        at = end;
     }
     io::write_all(libc::STDOUT_FILENO, b"\n");
 }

@@ -32,11 +32,6 @@ pub fn more(count: u64, n: usize) -> u64 {
     }
 }
 
-// One more, if this is so.
-pub fn more_if(count: u64, so: bool) -> u64 {
-    if so { more(count, 1) } else { count }
-}
-
 // One more answer, and whether it differs.
 pub fn compared(count: u64, other: bool) -> u64 {
     if other {

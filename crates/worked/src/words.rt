@@ -11,12 +11,12 @@ const WORD: u32 = 4_000_000_001;
 // In the place of a number that a line does not have: this, and how many it has.
 pub const MISSING: u32 = 4_000_000_002;
 
-// Where the line after this one begins.
-pub fn next_line(text: &[u8], at: usize) -> usize
+// The place behind the next such byte of a text, or its end.
+pub fn behind(text: &[u8], at: usize, byte: u8) -> usize
     requires { ⌜ at < length (now text) ⌝ }
     ensures { λ r. ⌜ (at < r) × (r ≤ length (now (text .entry))) ⌝ }
 {
-    let end = bytes::scan::find(text, at, text.len(), b'\n');
+    let end = bytes::scan::find(text, at, text.len(), byte);
     if end < text.len() {
         end + 1
     } else {
@@ -54,32 +54,18 @@ fn with_byte(number: u32, byte: u8) -> u32 {
     if byte <= b' ' {
         return EMPTY;
     }
-    if number == EMPTY {
-        return first_byte(byte);
+    if byte == b'-' {
+        return NO_FORCE;
     }
-    if number < 100_000_000 {
-        return digit(number, byte);
-    }
-    WORD
-}
-
-fn digit(number: u32, byte: u8) -> u32
-    requires { ⌜ number < 100000000 ⌝ }
-{
+    let before = if number == EMPTY { 0 } else { number };
     if b'0' <= byte {
         if byte <= b'9' {
-            return 10 * number + (byte - b'0') as u32;
+            if before < 100_000_000 {
+                return 10 * before + (byte - b'0') as u32;
+            }
         }
     }
     WORD
-}
-
-fn first_byte(byte: u8) -> u32 {
-    if byte == b'-' {
-        NO_FORCE
-    } else {
-        digit(0, byte)
-    }
 }
 
 // How many numbers there are, up to 99, with one that ends before a byte.
@@ -95,17 +81,18 @@ fn with_number(n: u32, number: u32, byte: u8) -> u32
     n
 }
 
-// Number k of a line, from 1.
-pub fn number(text: &[u8], at: usize, k: u32) -> u32
-    requires { ⌜ at < length (now text) ⌝ }
+// The number that stands k places behind another of a line; the first is number 1.
+pub fn number(text: &[u8], at: usize, first: u32, k: u32) -> u32
+    requires { ⌜ (at < length (now text)) × (first ≤ 100) × (k ≤ 100) ⌝ }
 {
+    let wanted = first + k;
     let mut number = EMPTY;
     let mut n = 0;
     let mut i = at;
     while i < text.len() {
         let byte = text[i];
         n = with_number(n, number, byte);
-        if n == k {
+        if n == wanted {
             return number;
         }
         if byte == b'\n' {

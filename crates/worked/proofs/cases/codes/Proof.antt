@@ -19,8 +19,8 @@ code-at-requires c κs = search needs
 one-code-requires : tie.Need-one-code-requires Inv-loop μ-loop
 one-code-requires c κs = search needs
 
-one-slope-requires : tie.Need-one-slope-requires Inv-loop μ-loop
-one-slope-requires c κs = search needs
+slope-requires : tie.Need-slope-requires Inv-loop μ-loop
+slope-requires c κs = search needs
 
 add-i : tie.Need-add-i Inv-loop μ-loop
 add-i c = search needs
@@ -43,7 +43,7 @@ codes-spec =
     loop-holds
     code-at-requires
     one-code-requires
-    one-slope-requires
+    slope-requires
     add-i
     loop-less
     loop-again

@@ -23,8 +23,8 @@ site-of-requires c κs = search needs
 codes-requires : tie.Need-codes-requires Inv-loop μ-loop
 codes-requires c κs = search needs
 
-next-line-requires : tie.Need-next-line-requires Inv-loop μ-loop
-next-line-requires c κs = search needs
+behind-requires : tie.Need-behind-requires Inv-loop μ-loop
+behind-requires c κs = search needs
 
 loop-less : tie.Need-loop-less Inv-loop μ-loop
 loop-less c = search needs
@@ -45,7 +45,7 @@ sites-spec =
     word-of-requires
     site-of-requires
     codes-requires
-    next-line-requires
+    behind-requires
     loop-less
     loop-again
     returns)

@@ -6,19 +6,22 @@ use Rattle.worked.proofs.report.filled.Statement.{statement}
 use Rattle.worked.proofs.report.filled.Tie as tie
 
 abbrev Inv-loop : tie.InvT-loop
-Inv-loop text counts at₀ i₀ t7 at i = (i ≤ 17) × (at ≤ length text)
+Inv-loop text counts i₀ at₀ t7 i at = (i ≤ at) × (at ≤ length text)
 
 abbrev μ-loop : tie.MeasureT-loop
-μ-loop text counts at₀ i₀ t7 at i = 17 - i
+μ-loop text counts i₀ at₀ t7 i at = length text - at
 
 loop-holds : tie.Need-loop-holds Inv-loop μ-loop
 loop-holds c = search needs
 
-find-requires : tie.Need-find-requires Inv-loop μ-loop
-find-requires c κs = search needs
+behind-requires : tie.Need-behind-requires Inv-loop μ-loop
+behind-requires c κs = search needs
 
 sub-write-all : tie.Need-sub-write-all Inv-loop μ-loop
 sub-write-all c = search needs
+
+sub-write-all-2 : tie.Need-sub-write-all-2 Inv-loop μ-loop
+sub-write-all-2 c = search needs
 
 part-write-all-start : tie.Need-part-write-all-start Inv-loop μ-loop
 part-write-all-start c = search needs
@@ -37,9 +40,6 @@ array-read-print-decimal c = search needs
 
 print-decimal-requires : tie.Need-print-decimal-requires Inv-loop μ-loop
 print-decimal-requires c κs = search needs
-
-after-requires : tie.Need-after-requires Inv-loop μ-loop
-after-requires c κs = search needs
 
 add-i : tie.Need-add-i Inv-loop μ-loop
 add-i c = search needs
@@ -66,15 +66,15 @@ filled-spec =
     Inv-loop
     μ-loop
     loop-holds
-    find-requires
+    behind-requires
     sub-write-all
+    sub-write-all-2
     part-write-all-start
     part-write-all-end
     write-all-requires
     mul-print-decimal
     array-read-print-decimal
     print-decimal-requires
-    after-requires
     add-i
     loop-less
     loop-again

@@ -6,10 +6,13 @@ use Rattle.worked.proofs.words.number.Statement.{statement}
 use Rattle.worked.proofs.words.number.Tie as tie
 
 abbrev Inv-loop : tie.InvT-loop
-Inv-loop text at k number₀ n₀ i₀ number n i = (i ≤ length text) × (n ≤ 99)
+Inv-loop text at first k wanted number₀ n₀ i₀ number n i = (i ≤ length text) × (n ≤ 99)
 
 abbrev μ-loop : tie.MeasureT-loop
-μ-loop text at k number₀ n₀ i₀ number n i = length text - i
+μ-loop text at first k wanted number₀ n₀ i₀ number n i = length text - i
+
+add-wanted : tie.Need-add-wanted Inv-loop μ-loop
+add-wanted c = search needs
 
 loop-holds : tie.Need-loop-holds Inv-loop μ-loop
 loop-holds c = search needs
@@ -53,6 +56,7 @@ number-spec =
     (tie.spec
     Inv-loop
     μ-loop
+    add-wanted
     loop-holds
     shared-slice-read-byte
     with-number-requires
