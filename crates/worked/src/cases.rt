@@ -1,15 +1,15 @@
 // A roof at every site and in every code, against the second calculation.
 use super::arrangements::made;
 use super::forces::slope;
-use super::given::site_of;
 use super::refusals::both;
 use super::tally::Tally;
 use super::tally::compared;
 use super::tally::more;
-use super::words::behind;
-use super::words::word_of;
 use figures::Roof;
 use figures::Site;
+use stored_lines::behind;
+use stored_lines::site_of;
+use stored_lines::word_of;
 
 // The word of a line that gives one more site.
 pub const SITES: u64 = 0x7369746573;

@@ -3,18 +3,18 @@ ghost use Prim.Native.Nat.{_<_};
 ghost use lib.ListN.{length};
 use super::cases::SITES;
 use super::forces::newtons;
-use super::given::byte;
-use super::given::fits;
-use super::given::roof_of;
-use super::given::site_of;
 use super::tally::Tally;
 use super::tally::compared;
-use super::words::MISSING;
-use super::words::behind;
-use super::words::number;
-use super::words::word_of;
 use figures::Roof;
 use figures::Site;
+use stored_lines::MISSING;
+use stored_lines::behind;
+use stored_lines::byte;
+use stored_lines::fits;
+use stored_lines::number;
+use stored_lines::roof_of;
+use stored_lines::site_of;
+use stored_lines::word_of;
 
 const COMPARE: u64 = 0x636f6d70617265;
 

@@ -3,13 +3,11 @@
 mod arrangements;
 mod cases;
 mod forces;
-mod given;
 mod lines;
 mod readings;
 mod refusals;
 mod report;
 mod tally;
-mod words;
 
 use tally::Tally;
 

@@ -1,7 +1,7 @@
 // The counts as text.
 use super::tally::DIFFERENT;
 use super::tally::Tally;
-use super::words::behind;
+use stored_lines::behind;
 
 fn counts_of(t: Tally) -> [u64; 17] {
     let r = t.readings;

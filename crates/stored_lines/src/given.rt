@@ -1,8 +1,8 @@
 // The site and the roof that a line gives, from one of its numbers on.
 ghost use Prim.Native.Nat.{_<_};
 ghost use lib.ListN.{length};
-use super::words::MISSING;
-use super::words::number;
+use crate::words::MISSING;
+use crate::words::number;
 use figures::Roof;
 use figures::SLOPE_NUMBERS;
 use figures::Shape;

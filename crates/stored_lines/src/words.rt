@@ -1,7 +1,9 @@
 // The words and the whole numbers of a line, which begins at a place of a text. Blanks stand between them.
 ghost use Prim.Native.Nat.{_≤_, _<_};
 ghost use lib.ListN.{length};
-use second::NO_FORCE;
+
+// What - stands for: no force.
+const NO_FORCE: u32 = 4_294_967_295;
 
 // In the place of a number: nothing yet, and a word.
 const EMPTY: u32 = 4_000_000_000;

@@ -1,8 +1,8 @@
 -- The numbers before k are put.
 use Prim.Native.Nat.{_≤_, _-_}
 use borrow.Author.Needs.{needs}
-use Rattle.worked.proofs.given.slopes_of.Statement.{statement}
-use Rattle.worked.proofs.given.slopes_of.Tie as tie
+use Rattle.stored_lines.proofs.given.slopes_of.Statement.{statement}
+use Rattle.stored_lines.proofs.given.slopes_of.Tie as tie
 
 abbrev Inv-loop : tie.InvT-loop
 Inv-loop text at first kind slopes₀ k₀ slopes k = k ≤ 64

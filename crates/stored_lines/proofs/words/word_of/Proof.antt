@@ -2,8 +2,8 @@
 use Prim.Native.Nat.{_≤_, _-_}
 use lib.ListN.{length}
 use borrow.Author.Needs.{needs}
-use Rattle.worked.proofs.words.word_of.Statement.{statement}
-use Rattle.worked.proofs.words.word_of.Tie as tie
+use Rattle.stored_lines.proofs.words.word_of.Statement.{statement}
+use Rattle.stored_lines.proofs.words.word_of.Tie as tie
 
 abbrev Inv-loop : tie.InvT-loop
 Inv-loop text at word₀ i₀ word i = i ≤ length text

@@ -2,8 +2,8 @@
 use Prim.Native.Nat.{_≤_, _-_}
 use lib.ListN.{length}
 use borrow.Author.Needs.{needs}
-use Rattle.worked.proofs.words.number.Statement.{statement}
-use Rattle.worked.proofs.words.number.Tie as tie
+use Rattle.stored_lines.proofs.words.number.Statement.{statement}
+use Rattle.stored_lines.proofs.words.number.Tie as tie
 
 abbrev Inv-loop : tie.InvT-loop
 Inv-loop text at first k wanted number₀ n₀ i₀ number n i = (i ≤ length text) × (n ≤ 99)
