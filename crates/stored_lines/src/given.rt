@@ -1,6 +1,5 @@
 // The site and the roof that a line gives, from one of its numbers on.
 ghost use Prim.Native.Nat.{_<_};
-ghost use lib.ListN.{length};
 use crate::words::MISSING;
 use crate::words::number;
 use figures::Roof;
@@ -20,9 +19,7 @@ struct Row {
     g: u32,
 }
 
-fn row_of(text: &[u8], at: usize, first: u32) -> Row
-    requires { ⌜ (at < length (now text)) × (first < 20) ⌝ }
-{
+fn row_of(text: &[u8], at: usize, first: u32) -> Row {
     Row {
         a: number(text, at, first, 0),
         b: number(text, at, first, 1),
@@ -42,9 +39,7 @@ pub fn byte(number: u32) -> u8 {
     (number % 256) as u8
 }
 
-pub fn site_of(text: &[u8], at: usize, first: u32) -> Site
-    requires { ⌜ (at < length (now text)) × (first < 20) ⌝ }
-{
+pub fn site_of(text: &[u8], at: usize, first: u32) -> Site {
     let row = row_of(text, at, first);
     Site {
         sk: row.a,
@@ -117,16 +112,14 @@ pub fn fits(kind: u32, before: u32, n: u32) -> bool
 
 // Number k of the slopes, 0 behind the line's spans: of a span the line has both pitches, then both widths.
 fn slope_number(text: &[u8], at: usize, first: u32, k: u32) -> u32
-    requires { ⌜ (at < length (now text)) × (first < 20) × (k < 64) ⌝ }
+    requires { ⌜ k < 64 ⌝ }
 {
     let number = number(text, at, first, 2 + k - k % 4 + 2 * (k % 2) + k % 4 / 2);
     if number < MISSING { number } else { 0 }
 }
 
 // The slopes of a multi-span roof; other kinds have none.
-fn slopes_of(text: &[u8], at: usize, first: u32, kind: u32) -> [u32; SLOPE_NUMBERS]
-    requires { ⌜ (at < length (now text)) × (first < 20) ⌝ }
-{
+fn slopes_of(text: &[u8], at: usize, first: u32, kind: u32) -> [u32; SLOPE_NUMBERS] {
     let mut slopes = [0; SLOPE_NUMBERS];
     if kind != 4 {
         return slopes;
@@ -139,9 +132,7 @@ fn slopes_of(text: &[u8], at: usize, first: u32, kind: u32) -> [u32; SLOPE_NUMBE
     slopes
 }
 
-pub fn roof_of(text: &[u8], at: usize, first: u32) -> Roof
-    requires { ⌜ (at < length (now text)) × (first < 20) ⌝ }
-{
+pub fn roof_of(text: &[u8], at: usize, first: u32) -> Roof {
     let row = row_of(text, at, first);
     Roof {
         shape: shape_of(row),

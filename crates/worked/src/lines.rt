@@ -33,9 +33,7 @@ const GUARD: u64 = 0x6775617264;
 const OUTSIDE: u64 = 0x6f757473696465;
 
 // Whether a line has the numbers that its word asks for.
-fn readable(word: u64, text: &[u8], at: usize) -> bool
-    requires { ⌜ at < length (now text) ⌝ }
-{
+fn readable(word: u64, text: &[u8], at: usize) -> bool {
     let last = number(text, at, 100, 0);
     if last < MISSING {
         return false;
@@ -61,9 +59,7 @@ fn answer(word: u64, site: Site, roof: Roof, code: u8, asked: u32) -> u32 {
 }
 
 // A case that a line gives whole: two numbers of its word, a site, a code and a roof.
-fn case(tally: Tally, word: u64, text: &[u8], at: usize) -> Tally
-    requires { ⌜ at < length (now text) ⌝ }
-{
+fn case(tally: Tally, word: u64, text: &[u8], at: usize) -> Tally {
     let mut t = tally;
     let a = number(text, at, 1, 0);
     let b = number(text, at, 2, 0);
@@ -90,9 +86,7 @@ fn case(tally: Tally, word: u64, text: &[u8], at: usize) -> Tally
 }
 
 // A line that is readable.
-fn run(tally: Tally, word: u64, text: &[u8], at: usize) -> Tally
-    requires { ⌜ at < length (now text) ⌝ }
-{
+fn run(tally: Tally, word: u64, text: &[u8], at: usize) -> Tally {
     let mut t = tally;
     match word {
         SITES => {}

@@ -6,7 +6,7 @@ use Rattle.stored_lines.proofs.words.word_of.Statement.{statement}
 use Rattle.stored_lines.proofs.words.word_of.Tie as tie
 
 abbrev Inv-loop : tie.InvT-loop
-Inv-loop text at word₀ i₀ word i = i ≤ length text
+Inv-loop text at word₀ i₀ word i = 0 ≤ i
 
 abbrev μ-loop : tie.MeasureT-loop
 μ-loop text at word₀ i₀ word i = length text - i
