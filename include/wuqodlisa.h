@@ -1,6 +1,6 @@
 /* Snow load arrangements of EN 1991-1-3:2003 for the firmware of the load terminals.
  *
- * Every call takes any bytes as a sheet and any numbers beside it, refuses what it can't answer, and ends.
+ * Every call takes any bytes as a sheet and any numbers, refuses what it can't answer, and ends.
  * What a caller owes: no pointer is null, each has the length given with it (in elements) and is aligned,
  * and memory lent for writing overlaps nothing else that the call gets.
  */
@@ -32,28 +32,34 @@ extern "C" {
 /* A number of bytes that holds the listing of any sheet. */
 #define SNOW_LIST_ROOM 275557
 
-/* The count of a sheet's items, or a refusal (1 to 10). */
+/* The count of a sheet's items, or a refusal (1 to 10, 14, 15; a map site's 14 and 15 come after its 6 and 7). */
 uint32_t snow_verdict(const uint8_t *sheet, size_t length);
 
 /* Writes the segments of an item's arrangement at the front of out, four numbers each: start, end, load, load.
  * Numbers behind them keep their values. 128 numbers are room for any arrangement.
- * The count of segments, or a refusal (1 to 10, 12 for the index, 13, 11), which alters nothing. The site, item 0,
- * has no arrangement: 13. */
+ * The count of segments, or a refusal (1 to 10, 14, 15, 12 for the index, 13, 11), which alters nothing. The site,
+ * item 0, has no arrangement: 13. */
 uint32_t snow_make(const uint8_t *sheet, size_t length, size_t item, uint8_t code, uint32_t *out, size_t room);
 
-/* The load at a station, in N/m2, or a refusal (1 to 10, 12 for the index, 13, 12 for the station). */
+/* The load at a station, in N/m2, or a refusal (1 to 10, 14, 15, 12 for the index, 13, 12 for the station). */
 uint32_t snow_load(const uint8_t *sheet, size_t length, size_t item, uint8_t code, uint32_t station);
 
-/* The overhang at the eave of a slope (1 left or only, 2 right), in N/m, SNOW_NONE, or a refusal (1 to 10, 12 for the
- * index). The site, item 0, has none. */
+/* The overhang at the eave of a slope (1 left or only, 2 right), in N/m, SNOW_NONE, or a refusal (1 to 10, 14, 15,
+ * 12 for the index). The site, item 0, has none. */
 uint32_t snow_overhang(const uint8_t *sheet, size_t length, size_t item, uint8_t slope);
 
-/* The force at the guard of a slope, in N/m, SNOW_NONE, or a refusal (1 to 10, 12 for the index). */
+/* The force at the guard of a slope, in N/m, SNOW_NONE, or a refusal (1 to 10, 14, 15, 12 for the index). */
 uint32_t snow_guard_force(const uint8_t *sheet, size_t length, size_t item, uint8_t slope);
 
 /* Writes the listing of a sheet at the front of out, the line REFUSED for a refused one, and answers its bytes.
  * Bytes behind it keep their values. Where room is less than SNOW_LIST_ROOM nothing is written and 0 is answered. */
 size_t snow_list(const uint8_t *sheet, size_t length, uint8_t *out, size_t room);
+
+/* The ground load sk of a map site by Table C.1, in N/m2, or a refusal, which names item 0: 7 altitude above 1,500 m,
+ * 14 region outside 1..8 or zone outside 1..5, 15 load outside 100..25,000, in this order.
+ * Regions: 1 Alpine Region; 2 Central East; 3 Greece; 4 Iberian Peninsula; 5 Mediterranean Region; 6 Central West;
+ * 7 Sweden, Finland; 8 UK, Republic of Ireland. For one region and zone the load never falls as the altitude rises. */
+uint32_t snow_ground_load(uint8_t region, uint8_t zone, uint16_t altitude);
 
 #ifdef __cplusplus
 }

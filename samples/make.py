@@ -17,6 +17,11 @@ def site(ground, ce=100, ct=100, cesl=200, situation=0, altitude=300):
     return struct.pack("<BIHHHBH", 1, ground, ce, ct, cesl, situation, altitude)
 
 
+def map_site(region, zone, ce=100, ct=100, cesl=200, situation=0, altitude=300):
+    """A site without a ground load: region and zone of Table C.1, 1 to 8 and 1 to 5."""
+    return struct.pack("<BBBHHHBH", 8, region, zone, ce, ct, cesl, situation, altitude)
+
+
 def monopitch(pitch, width, guard=0):
     return struct.pack("<BHBI", 2, tenths(pitch), guard, width)
 
@@ -107,12 +112,17 @@ SHEETS = {
         projection(1_600, 3_000, 16_000),
         gap=5,
     ),
+    # Kind 8
+    "map_alpine": sheet(map_site(1, 2, altitude=500), HALL),
+    "map_coast": sheet(map_site(8, 3, ce=80, situation=1, altitude=120), cylindrical(2_500, 16_000)),
     # Refused
     "refused_pairs": sheet(site(1_500), HALL)[:9],
     "refused_cut": sheet(site(1_500), HALL)[:-3],
     "refused_altitude": sheet(site(3_400, altitude=1_501), HALL),
     "refused_valley": sheet(site(1_500), HALL, multi_span((45.0, 60.0, 4_000, 3_000), (60.0, 45.0, 3_000, 4_000))),
     "refused_rise": sheet(site(1_500), cylindrical(6_001, 12_000)),
+    "refused_region": sheet(map_site(9, 2, altitude=500), HALL),
+    "refused_map_load": sheet(map_site(8, 1, altitude=20), HALL),
 }
 
 for name, content in SHEETS.items():

@@ -1,7 +1,8 @@
-//! The six calls with the same answers as the C calls of the library.
+//! The seven calls with the same answers as the C calls of the library.
 
 use crate::arrangement::Arrangement;
 use crate::forces;
+use crate::ground;
 use crate::listing;
 use crate::sheet::{number, Item, Items, Refusal, Roof, Site, Slope};
 
@@ -49,6 +50,12 @@ pub fn list(sheet: &[u8], out: &mut [u8]) -> usize {
     listing::list(sheet, &mut text);
     out[..text.len()].copy_from_slice(&text);
     text.len()
+}
+
+/// The ground load of a place on the map, or a refusal, which names item 0.
+pub fn ground_load(region: u8, zone: u8, altitude: u16) -> u32 {
+    let load = ground::load(region, zone, altitude);
+    answer(load.map_err(|number| Refusal::new(number, 0)))
 }
 
 /// The number of a refusal and the item that it names.
@@ -161,5 +168,62 @@ mod tests {
         assert_eq!(verdict(&[]), 0x8001_0000);
         assert_eq!(load(&SHEET, 0, 1, 0), 0x800D_0000);
         assert_eq!(refusal_parts(0x800C_FFFE), (12, 65_534));
+    }
+
+    /// A map site alone: Alpine Region, zone 2, 500 m.
+    const MAP_SHEET: [u8; 18] = [
+        1, 0, 6, 0, 12, 0, 8, 1, 2, 100, 0, 100, 0, 200, 0, 0, 0xF4, 1,
+    ];
+
+    fn changed(changes: &[(usize, u8)]) -> [u8; 18] {
+        let mut sheet = MAP_SHEET;
+        for &(place, value) in changes {
+            sheet[place] = value;
+        }
+        sheet
+    }
+
+    #[test]
+    fn a_map_site_stands_in_front() {
+        assert_eq!(verdict(&MAP_SHEET), 1);
+        // Not of its length, as an item of kind 1, and behind another site.
+        assert_eq!(verdict(&changed(&[(4, 11)])), 0x8004_0000);
+        assert_eq!(verdict(&changed(&[(6, 1)])), 0x8004_0000);
+        for (kind, number) in [(0, 3), (8, 5), (9, 3)] {
+            let mut sheet = vec![2, 0, 10, 0, 12, 0, 22, 0, 12, 0];
+            sheet.extend(&MAP_SHEET[6..]);
+            sheet.extend(&MAP_SHEET[6..]);
+            sheet[22] = kind;
+            assert_eq!(verdict(&sheet), REFUSED + 65_536 * number + 1);
+        }
+    }
+
+    /// Exposure, altitude, zone and load are wrong at first, then one less each time.
+    #[test]
+    fn a_map_site_is_refused_in_order() {
+        let light = [(7, 8), (8, 1), (16, 0), (17, 0)];
+        let off = [(7, 8), (8, 0), (16, 0), (17, 0)];
+        let high = [(7, 8), (8, 0), (16, 0xDD), (17, 5)];
+        let open = [(9, 121), (8, 0), (16, 0xDD), (17, 5)];
+        let numbers = [open, high, off, light].map(|wrong| verdict(&changed(&wrong)));
+        assert_eq!(
+            numbers,
+            [0x8006_0000, 0x8007_0000, 0x800E_0000, 0x800F_0000]
+        );
+        assert_eq!(verdict(&changed(&[(7, 0)])), 0x800E_0000);
+        assert_eq!(verdict(&changed(&[(7, 9)])), 0x800E_0000);
+        assert_eq!(verdict(&changed(&[(8, 6)])), 0x800E_0000);
+    }
+
+    #[test]
+    fn a_ground_load_is_refused_in_order() {
+        assert_eq!(ground_load(1, 2, 500), 1_903);
+        assert_eq!(ground_load(0, 0, 1_501), 0x8007_0000);
+        assert_eq!(ground_load(0, 1, 1_500), 0x800E_0000);
+        assert_eq!(ground_load(9, 1, 0), 0x800E_0000);
+        assert_eq!(ground_load(8, 0, 0), 0x800E_0000);
+        assert_eq!(ground_load(2, 6, 1_500), 0x800E_0000);
+        assert_eq!(ground_load(8, 1, 0), 0x800F_0000);
+        assert_eq!(ground_load(2, 5, 1_500), 0x800F_0000);
     }
 }

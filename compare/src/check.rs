@@ -4,6 +4,7 @@ use std::hint::black_box;
 
 use second::calls::{self, LIST_ROOM};
 
+use crate::draft::MAP_SITE;
 use crate::ffi;
 use crate::tally::{Call, Tally};
 
@@ -51,6 +52,7 @@ impl Checker {
         let count = if accepted { ours as usize } else { 0 };
         self.tally.sheets += 1;
         self.tally.accepted_sheets += u64::from(accepted);
+        self.tally.map_sheets += u64::from(accepted && has_map_site(sheet));
         let asked = Asked { sheet, count };
         self.settle(Call::Verdict, asked, 0, [ours, theirs], || {
             "verdict".to_string()
@@ -122,6 +124,37 @@ impl Checker {
         self.buffer[FRINGE..FRINGE + ours].fill(MARK_BYTE);
     }
 
+    /// Compares the ground loads of a place; the load, where there is one.
+    pub fn ground_load(&mut self, region: u8, zone: u8, altitude: u16) -> Option<u32> {
+        let ours = calls::ground_load(region, zone, altitude);
+        let theirs = ffi::ground_load(region, zone, altitude);
+        self.tally.call(Call::GroundLoad);
+        self.tally.map.answer(ours);
+        if ours != theirs {
+            self.tally.disagree(&[], || {
+                format!(
+                    "ground_load region {region} zone {zone} altitude {altitude}: second {}, library {}",
+                    show(ours),
+                    show(theirs)
+                )
+            });
+        }
+        (ours < calls::REFUSED).then_some(ours)
+    }
+
+    /// Compares the library's listing of a sheet with its listing of another that means the same.
+    pub fn alike(&mut self, sheet: &[u8], other: &[u8]) {
+        let first = ffi::list(sheet, &mut self.buffer[FRINGE..FRINGE + LIST_ROOM]);
+        let second = ffi::list(other, &mut self.text[..LIST_ROOM]);
+        if self.buffer[FRINGE..FRINGE + first] == self.text[..second] {
+            self.tally.map.alike += 1;
+        } else {
+            let describe = || "the ground load given lists otherwise".to_string();
+            self.tally.disagree(sheet, describe);
+        }
+        self.buffer[FRINGE..FRINGE + first].fill(MARK_BYTE);
+    }
+
     fn settle(
         &mut self,
         call: Call,
@@ -145,6 +178,12 @@ impl Checker {
             });
         }
     }
+}
+
+/// Whether the first item of an accepted sheet is a map site.
+fn has_map_site(sheet: &[u8]) -> bool {
+    let offset = u16::from_le_bytes([sheet[2], sheet[3]]);
+    sheet[usize::from(offset)] == MAP_SITE
 }
 
 fn is_marked(bytes: &[u8]) -> bool {

@@ -1,16 +1,16 @@
 //! The listings of the corpus, byte for byte.
 
 use std::env;
+use std::ffi::OsString;
 use std::fs;
 use std::path::PathBuf;
 
 use crate::calls;
 use crate::listing;
 
-const DEFAULT: &str = concat!(
-    env!("CARGO_MANIFEST_DIR"),
-    "/../crates/trials/data/base.bin"
-);
+const DEFAULT: &str = concat!(env!("CARGO_MANIFEST_DIR"), "/../crates/trials/data/A1.bin");
+/// Records of that file.
+const RECORDS: usize = 286;
 
 /// A sheet and the listing that it has to give.
 struct Record<'a> {
@@ -33,8 +33,13 @@ fn records(mut bytes: &[u8]) -> Vec<Record<'_>> {
     found
 }
 
+/// Another file than the usual one.
+fn named() -> Option<OsString> {
+    env::var_os("CORPUS")
+}
+
 fn corpus() -> Vec<u8> {
-    let path = env::var_os("CORPUS").map_or_else(|| PathBuf::from(DEFAULT), PathBuf::from);
+    let path = named().map_or_else(|| PathBuf::from(DEFAULT), PathBuf::from);
     fs::read(&path).unwrap_or_else(|fault| panic!("{}: {fault}", path.display()))
 }
 
@@ -42,7 +47,7 @@ fn corpus() -> Vec<u8> {
 fn every_listing_agrees() {
     let bytes = corpus();
     let records = records(&bytes);
-    assert_eq!(records.len(), 330);
+    assert!(named().is_some() || records.len() == RECORDS);
     for (place, record) in records.iter().enumerate() {
         let mut text = Vec::new();
         listing::list(record.sheet, &mut text);

@@ -28,17 +28,19 @@ pub fn sheet(random: &mut Random) -> Vec<u8> {
 }
 
 fn harm_items(random: &mut Random, items: &mut Vec<Vec<u8>>, place: usize) {
-    match random.below(10) {
+    match random.below(12) {
         0..=2 => outside(random, &mut items[place]),
         3 => change_kind(random, &mut items[place]),
         4 => change_length(random, &mut items[place]),
         5 => misplace_site(random, items, place),
         6 => {
             let high = random.pick(&[1_501, 1_502, 0xFFFF]);
-            draft::put(&mut items[0], draft::ALTITUDE, high);
+            let altitude = draft::altitude(&items[0]);
+            draft::put(&mut items[0], altitude, high);
         }
         7 => items.push(bad_count(random)),
         8 => items.push(bad_valley(random)),
+        9 | 10 => items[0] = off_map(random),
         _ => items.push(bad_arch(random)),
     }
 }
@@ -62,11 +64,14 @@ fn change_kind(random: &mut Random, item: &mut [u8]) {
 }
 
 fn change_length(random: &mut Random, item: &mut Vec<u8>) {
-    match random.below(5) {
+    match random.below(7) {
         0 => item.clear(),
         1 => item.truncate(1),
         2 => item.truncate(item.len().saturating_sub(1)),
         3 => item.push(0),
+        // The lengths of the two sites.
+        4 => item.resize(12, 0),
+        5 => item.resize(14, 0),
         _ => draft::noise(random, item, 12),
     }
 }
@@ -78,10 +83,61 @@ fn misplace_site(random: &mut Random, items: &mut Vec<Vec<u8>>, place: usize) {
         0 => items.swap(0, last),
         1 if last > 0 => drop(items.remove(0)),
         _ => {
-            let site = draft::item(random, draft::SITE);
+            let site = draft::site(random);
             items.insert(place + 1, site);
         }
     }
+}
+
+/// Regions, zones and altitudes around the lightest and the heaviest load of the map.
+const LOAD_EDGES: [(u32, u32, u32); 21] = [
+    (4, 1, 0),
+    (4, 1, 107),
+    (4, 1, 108),
+    (6, 1, 0),
+    (6, 1, 16),
+    (6, 1, 17),
+    (8, 1, 0),
+    (8, 1, 29),
+    (8, 1, 30),
+    (2, 3, 1_417),
+    (2, 3, 1_418),
+    (2, 3, 1_500),
+    (2, 4, 1_220),
+    (2, 4, 1_221),
+    (2, 4, 1_500),
+    (2, 5, 1_085),
+    (2, 5, 1_086),
+    (2, 5, 1_500),
+    (5, 5, 1_426),
+    (5, 5, 1_427),
+    (5, 5, 1_500),
+];
+
+/// A map site with its region, its zone or its load outside, sometimes with a field that is
+/// refused before them. Some loads are just inside.
+fn off_map(random: &mut Random) -> Vec<u8> {
+    let mut item = draft::item(random, draft::MAP_SITE);
+    if random.once_in(2) {
+        let (region, zone, altitude) = random.pick(&LOAD_EDGES);
+        draft::place(&mut item, region, zone, altitude);
+    }
+    match random.below(4) {
+        0 => {
+            let region = random.pick(&[0, 9, 10, 128, 255]);
+            draft::put(&mut item, draft::REGION, region);
+        }
+        1 => {
+            let zone = random.pick(&[0, 6, 7, 128, 255]);
+            draft::put(&mut item, draft::ZONE, zone);
+        }
+        2 => outside(random, &mut item),
+        _ => {}
+    }
+    if random.once_in(6) {
+        outside(random, &mut item);
+    }
+    item
 }
 
 /// A multi-span roof whose length fits a count outside 2..16, or whose count misses its length.

@@ -1,4 +1,6 @@
 //! Sound sheets: items with figures drawn evenly and at the edges of their ranges.
+//!
+//! Some map sites are too light or too heavy for their place; they are refused by 15.
 
 use crate::random::Random;
 
@@ -9,12 +11,17 @@ pub const MULTI_SPAN: u8 = 4;
 pub const CYLINDRICAL: u8 = 5;
 const LOWER: u8 = 6;
 const PROJECTION: u8 = 7;
+pub const MAP_SITE: u8 = 8;
 pub const MAX_SHEET: usize = 16_384;
 pub const MAX_ITEMS: usize = 32;
 pub const MAX_PITCH: u32 = 800;
-/// The situation and the altitude of a site.
+pub const MAX_ALTITUDE: u32 = 1_500;
+/// The situation of a site whose ground load is given.
 pub const SITUATION: Field = SITE_FIELDS[4];
-pub const ALTITUDE: Field = SITE_FIELDS[5];
+/// Region, zone and altitude of a map site.
+pub const REGION: Field = MAP_SITE_FIELDS[0];
+pub const ZONE: Field = MAP_SITE_FIELDS[1];
+const MAP_ALTITUDE: Field = MAP_SITE_FIELDS[6];
 
 /// A field of an item: its place, its bytes, its range and values worth meeting.
 #[derive(Clone, Copy)]
@@ -64,7 +71,23 @@ const SITE_FIELDS: [Field; 6] = [
     field(7, 2, 1, 100, &[100, 99]),
     field(9, 2, 100, 300, &[200]),
     field(11, 1, 0, 1, &[]),
-    field(12, 2, 0, 1_500, &[800, 801]),
+    field(12, 2, 0, MAX_ALTITUDE, &[800, 801]),
+];
+/// The altitudes worth meeting are also the divisors of Table C.1.
+const MAP_SITE_FIELDS: [Field; 7] = [
+    field(1, 1, 1, 8, &[]),
+    field(2, 1, 1, 5, &[]),
+    field(3, 2, 80, 120, &[100]),
+    field(5, 2, 1, 100, &[100, 99]),
+    field(7, 2, 100, 300, &[200]),
+    field(9, 1, 0, 1, &[]),
+    field(
+        10,
+        2,
+        0,
+        MAX_ALTITUDE,
+        &[256, 336, 452, 501, 524, 728, 800, 801, 917, 966],
+    ),
 ];
 const MONOPITCH_FIELDS: [Field; 3] = [pitch(1), guard(3), width(4)];
 const PITCHED_FIELDS: [Field; 6] = [pitch(1), pitch(3), guard(5), guard(6), width(7), width(11)];
@@ -85,6 +108,7 @@ pub fn fields(item: &[u8]) -> Vec<Field> {
         Some(&CYLINDRICAL) => ARCH_FIELDS.to_vec(),
         Some(&LOWER) => LOWER_FIELDS.to_vec(),
         Some(&PROJECTION) => PROJECTION_FIELDS.to_vec(),
+        Some(&MAP_SITE) => MAP_SITE_FIELDS.to_vec(),
         _ => Vec::new(),
     }
 }
@@ -148,6 +172,7 @@ fn blank(kind: u8) -> Vec<u8> {
         PITCHED => 15,
         CYLINDRICAL => 9,
         LOWER => 20,
+        MAP_SITE => 12,
         _ => 13,
     };
     let mut item = vec![0; length];
@@ -161,6 +186,37 @@ fn filled(random: &mut Random, mut item: Vec<u8>) -> Vec<u8> {
         put(&mut item, field, value);
     }
     item
+}
+
+/// A site of either kind, once in three times one on the map.
+pub fn site(random: &mut Random) -> Vec<u8> {
+    let kind = if random.once_in(3) { MAP_SITE } else { SITE };
+    item(random, kind)
+}
+
+/// Moves a map site to a region, a zone and an altitude.
+pub fn place(item: &mut [u8], region: u32, zone: u32, altitude: u32) {
+    put(item, REGION, region);
+    put(item, ZONE, zone);
+    put(item, MAP_ALTITUDE, altitude);
+}
+
+/// The site with a ground load given and all else as on the map site.
+pub fn given_site(map_site: &[u8], ground_load: u32) -> Vec<u8> {
+    let mut item = blank(SITE);
+    put(&mut item, SITE_FIELDS[0], ground_load);
+    for (to, from) in SITE_FIELDS[1..].iter().zip(&MAP_SITE_FIELDS[2..]) {
+        put(&mut item, *to, get(map_site, *from));
+    }
+    item
+}
+
+/// The altitude of a site of either kind.
+pub fn altitude(item: &[u8]) -> Field {
+    match item.first() {
+        Some(&MAP_SITE) => MAP_ALTITUDE,
+        _ => SITE_FIELDS[5],
+    }
 }
 
 /// A multi-span roof whose valleys keep the rule.
@@ -254,6 +310,11 @@ fn projection(random: &mut Random) -> Vec<u8> {
     item
 }
 
+pub fn roof(random: &mut Random) -> Vec<u8> {
+    let kind = random.between(2, 7) as u8;
+    item(random, kind)
+}
+
 /// The items of a sound sheet, the site first.
 pub fn items(random: &mut Random) -> Vec<Vec<u8>> {
     let roofs = match random.below(16) {
@@ -262,10 +323,9 @@ pub fn items(random: &mut Random) -> Vec<Vec<u8>> {
         2 | 3 => random.below(MAX_ITEMS),
         _ => 1 + random.below(4),
     };
-    let mut items = vec![item(random, SITE)];
+    let mut items = vec![site(random)];
     for _ in 0..roofs {
-        let kind = random.between(2, 7) as u8;
-        items.push(item(random, kind));
+        items.push(roof(random));
     }
     items
 }

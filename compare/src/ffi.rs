@@ -1,4 +1,4 @@
-//! The six C calls of the library behind safe functions on slices.
+//! The seven C calls of the library behind safe functions.
 
 mod raw {
     #[link(name = "terminal", kind = "static")]
@@ -22,10 +22,11 @@ mod raw {
         pub fn snow_overhang(sheet: *const u8, length: usize, item: usize, slope: u8) -> u32;
         pub fn snow_guard_force(sheet: *const u8, length: usize, item: usize, slope: u8) -> u32;
         pub fn snow_list(sheet: *const u8, length: usize, out: *mut u8, room: usize) -> usize;
+        pub fn snow_ground_load(region: u8, zone: u8, altitude: u16) -> u32;
     }
 }
 
-// Each call owes pointers that are not null, have the length given and overlap nothing that is
+// Each call with a sheet owes pointers that are not null, have the length given and overlap nothing that is
 // written. Slices promise all of that.
 
 pub fn verdict(sheet: &[u8]) -> u32 {
@@ -58,4 +59,9 @@ pub fn list(sheet: &[u8], out: &mut [u8]) -> usize {
     let (room, out) = (out.len(), out.as_mut_ptr());
     // SAFETY: both slices have the lengths given, and the lent one is borrowed alone.
     unsafe { raw::snow_list(sheet.as_ptr(), sheet.len(), out, room) }
+}
+
+pub fn ground_load(region: u8, zone: u8, altitude: u16) -> u32 {
+    // SAFETY: the call takes numbers alone.
+    unsafe { raw::snow_ground_load(region, zone, altitude) }
 }

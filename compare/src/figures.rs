@@ -2,6 +2,7 @@
 
 use crate::arrangement::{loaded_width, Arrangement};
 use crate::forces;
+use crate::ground;
 use crate::sheet::{Item, Items, Roof, Site, Slope};
 
 const SITE: Site = Site {
@@ -167,4 +168,51 @@ fn overhang() {
     assert_eq!(force(3_750, 801), Some(9_000));
     assert_eq!(force(3_751, 801), Some(9_003));
     assert_eq!(force(1_250, 800), None);
+}
+
+/// Zone, altitude and load for each line of Table C.1, worked by hand. At half a square's divisor
+/// the load is 1.25 times that at sea level, at the divisor twice and at the triple ten times.
+#[test]
+fn map() {
+    let lines: [&[(u8, u16, u32)]; 8] = [
+        &[(1, 0, 651), (1, 364, 814), (2, 728, 2_586), (5, 728, 6_438)],
+        &[(1, 0, 262), (1, 128, 328), (1, 256, 524), (5, 768, 13_180)],
+        &[(1, 0, 390), (1, 1, 391), (2, 917, 1_620), (5, 917, 4_140)],
+        &[(1, 524, 190), (2, 0, 285), (2, 262, 357), (5, 1_048, 4_275)],
+        &[(1, 0, 289), (1, 226, 362), (2, 904, 3_935), (5, 452, 4_562)],
+        &[(1, 483, 582), (1, 966, 1_082), (2, 1, 248), (5, 0, 738)],
+        &[
+            (1, 0, 1_165),
+            (1, 1, 1_168),
+            (1, 168, 1_665),
+            (5, 336, 5_325),
+        ],
+        &[(1, 501, 1_040), (2, 0, 180), (2, 1, 182), (5, 1_002, 2_600)],
+    ];
+    for (region, figures) in (1..).zip(lines) {
+        for &(zone, altitude, load) in figures {
+            let place = format!("region {region} zone {zone} altitude {altitude}");
+            assert_eq!(ground::load(region, zone, altitude), Ok(load), "{place}");
+        }
+    }
+}
+
+/// The last altitude on one side of 100 or 25,000 and the first on the other, worked by hand.
+#[test]
+fn map_limits() {
+    let light = [(4, 1, 108), (6, 1, 17), (8, 1, 30)];
+    for (region, zone, altitude) in light {
+        assert_eq!(ground::load(region, zone, altitude - 1), Err(15));
+        assert_eq!(ground::load(region, zone, altitude), Ok(100));
+    }
+    let heavy = [
+        (2, 3, 1_417, 24_994),
+        (2, 4, 1_220, 24_992),
+        (2, 5, 1_085, 24_994),
+        (5, 5, 1_426, 24_985),
+    ];
+    for (region, zone, altitude, load) in heavy {
+        assert_eq!(ground::load(region, zone, altitude), Ok(load));
+        assert_eq!(ground::load(region, zone, altitude + 1), Err(15));
+    }
 }

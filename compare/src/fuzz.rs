@@ -17,6 +17,8 @@ const CODES: [u8; 18] = [
     0, 1, 2, 3, 4, 5, 6, 7, 8, 9, 10, 11, 12, 13, 14, 21, 128, 255,
 ];
 const SLOPES: [u8; 5] = [0, 1, 2, 3, 255];
+/// Altitudes at the ends of their range and of 8 and 16 bits, with every region and every zone.
+const ALTITUDES: [u16; 10] = [0, 1, 255, 256, 1_499, 1_500, 1_501, 1_502, 32_768, 65_535];
 
 pub struct Fuzz {
     pub checker: Checker,
@@ -65,6 +67,42 @@ impl Fuzz {
         }
     }
 
+    /// Every place of the map, and bytes of every value for the region and the zone.
+    pub fn sweep_map(&mut self) {
+        for region in 1..=8 {
+            for zone in 1..=5 {
+                for altitude in 0..=draft::MAX_ALTITUDE {
+                    self.map_place(region, zone, altitude);
+                }
+            }
+        }
+        for region in 0..=255 {
+            for zone in 0..=255 {
+                for altitude in ALTITUDES {
+                    self.checker.ground_load(region, zone, altitude);
+                }
+            }
+        }
+    }
+
+    /// The load of a place, and a sheet with a roof there. Where there is a load, the sheet with
+    /// that load given lists the same.
+    fn map_place(&mut self, region: u8, zone: u8, altitude: u32) {
+        let load = self.checker.ground_load(region, zone, altitude as u16);
+        self.checker.tally.map.places += 1;
+        let mut site = draft::item(&mut self.random, draft::MAP_SITE);
+        draft::place(&mut site, region.into(), zone.into(), altitude);
+        let given = load.map(|load| draft::given_site(&site, load));
+        let mut items = [site, draft::roof(&mut self.random)];
+        let sheet = draft::sheet(&mut self.random, &items);
+        self.checker.list(&sheet, LIST_ROOM);
+        if let Some(given) = given {
+            items[0] = given;
+            let other = draft::sheet(&mut self.random, &items);
+            self.checker.alike(&sheet, &other);
+        }
+    }
+
     /// The sheet may start anywhere in memory, and no call may alter it.
     fn ask_anywhere(&mut self, sheet: &[u8]) {
         let shift = self.random.below(8);
@@ -81,6 +119,7 @@ impl Fuzz {
     fn ask(&mut self, sheet: &[u8]) {
         let asked = self.checker.verdict(sheet);
         self.lists(sheet);
+        self.ground_question();
         self.index_questions(asked);
         if asked.count > 1 {
             for _ in 0..CLOSE.min(asked.count - 1) {
@@ -99,6 +138,14 @@ impl Fuzz {
             let room = self.random.pick(&rooms);
             self.checker.list(sheet, room);
         }
+    }
+
+    /// A place on the map or beside it, at any altitude.
+    fn ground_question(&mut self) {
+        let region = self.random.between(0, 9) as u8;
+        let zone = self.random.between(0, 6) as u8;
+        let altitude = self.random.next() as u16 >> self.random.below(16);
+        self.checker.ground_load(region, zone, altitude);
     }
 
     /// All calls on the site, on an index that is not there, and on a refused sheet.

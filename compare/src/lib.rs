@@ -5,6 +5,7 @@
 pub mod arrangement;
 pub mod calls;
 pub mod forces;
+pub mod ground;
 pub mod listing;
 pub mod loads;
 pub mod reading;

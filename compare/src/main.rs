@@ -29,6 +29,7 @@ fn main() -> ExitCode {
     let start = Instant::now();
     let mut fuzz = fuzz::Fuzz::new(seed);
     fuzz.sweep();
+    fuzz.sweep_map();
     fuzz.run(sheets);
     let tally = &fuzz.checker.tally;
     tally.print();

@@ -2,6 +2,8 @@
 
 use std::ops::RangeInclusive;
 
+use crate::ground;
+
 /// Bytes of the longest sheet.
 pub const MAX_SHEET: usize = 16_384;
 /// Items of the fullest sheet.
@@ -12,6 +14,11 @@ pub const MAX_SPANS: usize = 16;
 pub const MAX_SLOPES: usize = 2 * MAX_SPANS;
 /// 60.0 degrees, where snow no longer stays on a slope.
 pub const SLIDING_PITCH: u16 = 600;
+
+/// Ground loads in N/m², given or from the map.
+pub const GROUND_LOADS: RangeInclusive<u32> = 100..=25_000;
+/// Altitudes of a site in m.
+pub const ALTITUDES: RangeInclusive<u16> = 0..=1_500;
 
 const PITCHES: RangeInclusive<u16> = 0..=800;
 const WIDTHS: RangeInclusive<u32> = 1..=100_000;
@@ -32,6 +39,8 @@ pub mod number {
     pub const ROOM: u8 = 11;
     pub const PAST_END: u8 = 12;
     pub const NOT_MADE: u8 = 13;
+    pub const REGION: u8 = 14;
+    pub const MAP_LOAD: u8 = 15;
 }
 
 /// Why there is no answer, and at which item.
@@ -181,7 +190,7 @@ fn decode(bytes: &[u8], is_first: bool) -> Result<Item, u8> {
     if length_of(kind, rest)? != bytes.len() {
         return Err(number::LENGTH);
     }
-    if (kind == 1) != is_first {
+    if is_site(kind) != is_first {
         return Err(number::SITE_PLACE);
     }
     let fields = Fields(rest);
@@ -192,8 +201,14 @@ fn decode(bytes: &[u8], is_first: bool) -> Result<Item, u8> {
         4 => multi_span(fields).map(Item::Roof),
         5 => cylindrical(fields).map(Item::Roof),
         6 => lower(fields).map(Item::Roof),
-        _ => projection(fields).map(Item::Roof),
+        7 => projection(fields).map(Item::Roof),
+        _ => map_site(fields).map(Item::Site),
     }
+}
+
+/// A site has its ground load given or takes it from the map.
+fn is_site(kind: u8) -> bool {
+    matches!(kind, 1 | 8)
 }
 
 /// The length that an item of this kind has. A multi-span roof says so in its count byte.
@@ -206,6 +221,7 @@ fn length_of(kind: u8, rest: &[u8]) -> Result<usize, u8> {
         5 => 9,
         6 => 20,
         7 => 13,
+        8 => 12,
         _ => return Err(number::KIND),
     })
 }
@@ -249,7 +265,8 @@ impl Fields<'_> {
     }
 }
 
-fn within<T: PartialOrd>(value: T, range: RangeInclusive<T>, refusal: u8) -> Result<T, u8> {
+/// The value, or the refusal where it lies outside its range.
+pub fn within<T: PartialOrd>(value: T, range: RangeInclusive<T>, refusal: u8) -> Result<T, u8> {
     if range.contains(&value) {
         Ok(value)
     } else {
@@ -257,15 +274,31 @@ fn within<T: PartialOrd>(value: T, range: RangeInclusive<T>, refusal: u8) -> Res
     }
 }
 
-/// The altitude comes last, as its rule (7) stands behind the others (6).
 fn site(mut fields: Fields) -> Result<Site, u8> {
+    let ground_load = within(fields.u32(), GROUND_LOADS, number::SITE_FIELD)?;
+    site_with(ground_load, &mut fields)
+}
+
+/// The map is asked (14, 15) when every other field is known to be right.
+fn map_site(mut fields: Fields) -> Result<Site, u8> {
+    let (region, zone) = (fields.u8(), fields.u8());
+    let rest = site_with(0, &mut fields)?;
+    let ground_load = ground::load(region, zone, rest.altitude)?;
     Ok(Site {
-        ground_load: within(fields.u32(), 100..=25_000, number::SITE_FIELD)?,
+        ground_load,
+        ..rest
+    })
+}
+
+/// The fields from Ce on. The altitude comes last, as its rule (7) stands behind the others (6).
+fn site_with(ground_load: u32, fields: &mut Fields) -> Result<Site, u8> {
+    Ok(Site {
+        ground_load,
         exposure: within(fields.u16(), 80..=120, number::SITE_FIELD)?,
         thermal: within(fields.u16(), 1..=100, number::SITE_FIELD)?,
         exceptional: within(fields.u16(), 100..=300, number::SITE_FIELD)?,
         has_exceptional_falls: within(fields.u8(), 0..=1, number::SITE_FIELD)? == 1,
-        altitude: within(fields.u16(), 0..=1_500, number::ALTITUDE)?,
+        altitude: within(fields.u16(), ALTITUDES, number::ALTITUDE)?,
     })
 }
 

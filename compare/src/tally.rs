@@ -2,8 +2,18 @@
 
 use second::calls::{refusal_parts, NONE, REFUSED};
 
-/// The six calls, in the order of the header.
-pub const CALLS: [&str; 6] = ["verdict", "make", "load", "overhang", "guard_force", "list"];
+/// The seven calls, in the order of the header.
+pub const CALLS: [&str; 7] = [
+    "verdict",
+    "make",
+    "load",
+    "overhang",
+    "guard_force",
+    "list",
+    "ground_load",
+];
+/// The highest number of a refusal.
+const MAX_NUMBER: usize = 15;
 /// Lengths of slices that every run goes through.
 pub const LENGTHS: usize = 141;
 /// Indexes that no sheet has and every run asks for: those at the ends of 8, 16, 31, 32 and 64 bits.
@@ -23,6 +33,10 @@ pub const MISSING: [usize; 14] = [
     1 << 32,
     usize::MAX,
 ];
+/// 8 regions, 5 zones, altitudes 0 to 1,500: every run asks for each.
+const MAP_PLACES: u64 = 8 * 5 * 1_501;
+/// Refusals of a ground load.
+const MAP_REFUSALS: [usize; 3] = [7, 14, 15];
 /// Disagreements that are written out.
 const SHOWN: u64 = 5;
 
@@ -34,23 +48,68 @@ pub enum Call {
     Overhang,
     GuardForce,
     List,
+    GroundLoad,
 }
 
 pub struct Tally {
     pub sheets: u64,
     pub accepted_sheets: u64,
-    calls: [u64; 6],
+    /// Accepted ones with a map site.
+    pub map_sheets: u64,
+    calls: [u64; CALLS.len()],
     answered: u64,
     none: u64,
-    /// By number; 12 for an index counts here.
-    refused: [u64; 14],
+    /// On sheets, by number; 12 for an index counts here.
+    refused: [u64; MAX_NUMBER + 1],
     /// 12 for a station.
     past_roof: u64,
     /// How often a slice of each length was lent, and how often it was enough.
     lengths: [(u64, u64); LENGTHS],
     /// How often each missing index was refused by 12.
     missing: [u64; MISSING.len()],
+    pub map: MapTally,
     disagreements: u64,
+}
+
+/// What was asked about ground loads of the map.
+#[derive(Default)]
+pub struct MapTally {
+    /// Places of the table: each region, zone and altitude within its range.
+    pub places: u64,
+    /// Listings that are alike on the map and with the ground load given.
+    pub alike: u64,
+    answered: u64,
+    /// By number; no sheet is in play.
+    refused: [u64; MAX_NUMBER + 1],
+}
+
+impl MapTally {
+    pub fn answer(&mut self, answer: u32) {
+        if answer < REFUSED {
+            self.answered += 1;
+        } else {
+            self.refused[number_of(answer)] += 1;
+        }
+    }
+
+    fn is_good(&self) -> bool {
+        self.places == MAP_PLACES && self.alike > 0 && self.met_refusals()
+    }
+
+    fn met_refusals(&self) -> bool {
+        MAP_REFUSALS.iter().all(|&number| self.refused[number] > 0)
+    }
+
+    fn print(&self) {
+        println!(
+            "GROUND LOADS {} of the map, {} listings alike with the load given",
+            self.places, self.alike
+        );
+        println!("  answered {}", self.answered);
+        for number in MAP_REFUSALS {
+            println!("  refused {number} {}", self.refused[number]);
+        }
+    }
 }
 
 impl Tally {
@@ -58,13 +117,15 @@ impl Tally {
         Self {
             sheets: 0,
             accepted_sheets: 0,
-            calls: [0; 6],
+            map_sheets: 0,
+            calls: [0; CALLS.len()],
             answered: 0,
             none: 0,
-            refused: [0; 14],
+            refused: [0; MAX_NUMBER + 1],
             past_roof: 0,
             lengths: [(0, 0); LENGTHS],
             missing: [0; MISSING.len()],
+            map: MapTally::default(),
             disagreements: 0,
         }
     }
@@ -82,7 +143,7 @@ impl Tally {
         } else if number_of(answer) == 12 && index_exists {
             self.past_roof += 1;
         } else {
-            self.refused[number_of(answer).min(13)] += 1;
+            self.refused[number_of(answer)] += 1;
         }
     }
 
@@ -116,21 +177,24 @@ impl Tally {
         self.calls.iter().sum()
     }
 
-    /// No disagreement, and every refusal, every slice length and every missing index was met.
+    /// No disagreement, and every refusal, every slice length, every missing index and every place
+    /// of the map was met.
     pub fn is_good(&self) -> bool {
         self.agrees()
             && self.refused[1..].iter().all(|&count| count > 0)
             && self.past_roof > 0
             && self.lengths.iter().all(|entry| entry.0 > 0)
             && self.missing.iter().all(|&count| count > 0)
+            && self.map_sheets > 0
+            && self.map.is_good()
     }
 
     pub fn print(&self) {
-        let refused = self.sheets - self.accepted_sheets;
-        let accepted = self.accepted_sheets;
+        let (accepted, on_map) = (self.accepted_sheets, self.map_sheets);
         println!(
-            "SHEETS {} accepted {accepted} refused {refused}",
-            self.sheets
+            "SHEETS {} accepted {accepted}, with a map site {on_map}, refused {}",
+            self.sheets,
+            self.sheets - accepted
         );
         println!("COMPARISONS {}", self.comparisons());
         for (name, count) in CALLS.iter().zip(self.calls) {
@@ -143,7 +207,10 @@ impl Tally {
         }
         println!("  12 index {}", self.refused[12]);
         println!("  12 station {}", self.past_roof);
-        println!("  13 {}", self.refused[13]);
+        for number in 13..=MAX_NUMBER {
+            println!("  {number} {}", self.refused[number]);
+        }
+        self.map.print();
         self.print_lengths();
         self.print_missing();
         println!("DISAGREEMENTS {}", self.disagreements);

@@ -8,10 +8,11 @@
 
 #include "wuqodlisa.h"
 
-enum { STACK = 1 << 20, PAINT = 0xA5, SHEET = 16384, CALLS = 7 };
+enum { STACK = 1 << 20, PAINT = 0xA5, SHEET = 16384, CALLS = 8 };
 
 static const char *const names[CALLS] = {
-    "nothing", "snow_verdict", "snow_make", "snow_load", "snow_overhang", "snow_guard_force", "snow_list"};
+    "nothing", "snow_verdict", "snow_make", "snow_load", "snow_overhang", "snow_guard_force", "snow_list",
+    "snow_ground_load"};
 
 static unsigned char stack[STACK] __attribute__((aligned(4096)));
 static unsigned char sheet[SHEET];
@@ -20,6 +21,7 @@ static uint8_t out[SNOW_LIST_ROOM];
 static uint32_t numbers[128];
 static size_t most[CALLS];
 
+/* A question of a call. Of snow_ground_load the zone is the item, the region the code and the altitude the station. */
 struct job {
     int call;
     size_t item;
@@ -37,6 +39,7 @@ static void *run(void *argument)
     case 4: snow_overhang(sheet, length, job->item, job->code); break;
     case 5: snow_guard_force(sheet, length, job->item, job->code); break;
     case 6: snow_list(sheet, length, out, sizeof out); break;
+    case 7: snow_ground_load(job->code, (uint8_t)job->item, (uint16_t)job->station); break;
     default: break;
     }
     return NULL;
@@ -80,6 +83,15 @@ static void measure_sheet(void)
             measure((struct job){5, item, slope, 0});
         }
     }
+}
+
+/* Ground loads of every region and zone, and of those beside them. */
+static void measure_map(void)
+{
+    for (uint8_t region = 0; region <= 9; region++)
+        for (size_t zone = 0; zone <= 6; zone++)
+            for (uint32_t altitude = 0; altitude <= 1501; altitude += 1501)
+                measure((struct job){7, zone, region, altitude});
 }
 
 static void put(size_t at, uint32_t value, int bytes)
@@ -135,6 +147,7 @@ int main(int count, char **names_of_sheets)
     }
     heaviest();
     measure_sheet();
+    measure_map();
     for (int call = 1; call < CALLS; call++)
         printf("%-16s %zu bytes of stack\n", names[call], most[call] - most[0]);
     return 0;

@@ -1,4 +1,5 @@
-/* Asks the six calls about one sheet, prints every answer and checks what the header says of them.
+/* Asks the calls about one sheet and about some ground loads, prints every answer and checks what the header says of
+ * them.
  *     c_example SHEET         all answers; the exit code is 1 where a check fails
  *     c_example SHEET list    the listing alone
  */
@@ -19,8 +20,20 @@ struct sheet {
 
 struct refusal { uint32_t number, item; };
 
+struct place {
+    uint8_t region, zone;
+    uint16_t altitude;
+};
+
 static const uint8_t codes[] = {1, 2, 3, 11, 12, 13};
 static const size_t missing[] = {255, 256, 65534, 65535, 65536, SIZE_MAX}; /* no sheet has such an item */
+static const struct place on_map[] = {
+    {1, 2, 500}, {2, 3, 300}, {3, 1, 650}, {4, 4, 800}, {5, 2, 452}, {6, 5, 120}, {7, 3, 60}, {8, 1, 250},
+};
+static const struct { struct place place; uint32_t number; } off_map[] = {
+    {{9, 6, 1501}, 7}, {{1, 2, 65535}, 7}, {{0, 1, 1500}, 14}, {{9, 1, 0}, 14},
+    {{8, 0, 0}, 14},   {{2, 6, 1500}, 14}, {{8, 1, 0}, 15},    {{2, 5, 1500}, 15},
+};
 static unsigned checks, failures;
 
 static void check(bool holds, const char *what, size_t item)
@@ -165,6 +178,29 @@ static void ask_missing(const struct sheet *sheet, size_t item)
     check_refused(sheet, item, SNOW_REFUSED + 65536 * 12 + shown(item));
 }
 
+static uint32_t ground_load(struct place at)
+{
+    uint32_t answer = snow_ground_load(at.region, at.zone, at.altitude);
+    printf("GROUND region %u zone %u at %u m: ", at.region, at.zone, at.altitude);
+    print_answer(answer, "N/m2");
+    return answer;
+}
+
+/* A ground load of each region, which is no less a metre higher up, and places that are refused. Where several numbers
+ * hold, the first in the order is given. */
+static void ask_map(void)
+{
+    for (size_t i = 0; i < sizeof on_map / sizeof *on_map; i++) {
+        uint32_t load = ground_load(on_map[i]);
+        uint32_t above = snow_ground_load(on_map[i].region, on_map[i].zone, on_map[i].altitude + 1);
+        check(load >= 100 && load <= above && above <= 25000, "a ground load falls or is out of range", 0);
+    }
+    for (size_t i = 0; i < sizeof off_map / sizeof *off_map; i++) {
+        uint32_t answer = ground_load(off_map[i].place);
+        check(refused_with(answer, off_map[i].number, 0), "a ground load is refused otherwise", 0);
+    }
+}
+
 /* Prints the listing; the count of its lines. One byte of room too little alters nothing. */
 static size_t list(const struct sheet *sheet)
 {
@@ -195,6 +231,7 @@ static void ask(const struct sheet *sheet)
             ask_missing(sheet, missing[i]);
     }
     check(list(sheet) == lines, "the listing has other lines", 0);
+    ask_map();
     printf("CHECKS: %u\n", checks);
 }
 

@@ -1,5 +1,7 @@
 -- Answers as numbers of 32 bits, as the header has them.
 use Prim.Native.Nat.{ℕ, _+_, _*_, min}
+use Rattle.ground_loads.specs.declared.map.GroundLoad.{GroundLoad}
+use Rattle.ground_loads.specs.declared.map.GroundLoad.the-variants.{Load, Refused}
 use Rattle.pairs.specs.Pairs as sheets
 use Rattle.standard.specs.Answers.{Answer, value, refused}
 use Rattle.standard.specs.Forces as forces
@@ -21,6 +23,11 @@ verdictCode (sheets.refused number item) = refusalCode number item
 abbrev pub answerCode : ℕ → Answer → ℕ
 answerCode item (value n) = n
 answerCode item (refused number) = refusalCode number item
+
+-- a ground load by the map, or a refusal, which names no item and so item 0
+abbrev pub groundCode : GroundLoad → ℕ
+groundCode (Load n) = n
+groundCode (Refused number) = refusalCode number 0
 
 -- a force, "none", or a refusal of the item
 abbrev pub forceCode : ℕ → forces.Force → ℕ

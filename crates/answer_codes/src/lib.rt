@@ -4,8 +4,9 @@ ghost use Prim.Native.Nat.{_≤_, min};
 ghost use Rattle.arrangement.specs.Arrangement.{madeMeans, madeCount};
 ghost use Rattle.local_forces.specs.Answers.{forceMeans};
 ghost use Rattle.reading.specs.Reading.{readingMeans};
-ghost use Rattle.answer_codes.specs.Codes.{refusalCode, answerCode, forceCode};
+ghost use Rattle.answer_codes.specs.Codes.{refusalCode, answerCode, groundCode, forceCode};
 use arrangement::Made;
+use ground_loads::GroundLoad;
 use local_forces::LocalForce;
 use reading::Reading;
 
@@ -55,5 +56,15 @@ pub fn load(answer: Reading, item: usize) -> u32
     match answer {
         Reading::Load(load) => load,
         Reading::Refused(number) => refusal(number, item),
+    }
+}
+
+// A ground load, or a refusal, which names no item.
+pub fn ground(answer: GroundLoad) -> u32
+    ensures { λ r. ⌜ r ≡ groundCode answer ⌝ }
+{
+    match answer {
+        GroundLoad::Load(load) => load,
+        GroundLoad::Refused(number) => refusal(number, 0),
     }
 }

@@ -11,7 +11,7 @@ use native.Mathlib.Omega.{arith}
 use Rattle.figures.specs.Bounds.{Within, SiteIn, SlopeIn, ShapeIn}
 use Rattle.figures.specs.Ranges.{within}
 use Rattle.figures.specs.Rules.{refusedIf}
-use Rattle.figures.specs.SiteRules.{siteFields, siteRefusal}
+use Rattle.figures.specs.SiteRules.{groundField, otherFields, siteFields, siteRefusal}
 use Rattle.figures.specs.RoofRules.{slopeOf, slopeFields, slopesFields, shapeRefusal}
 use Rattle.figures.specs.declared.site.Site.{Site}
 use Rattle.figures.specs.declared.roof.Slope.{Slope}
@@ -25,7 +25,7 @@ range low high x h =
     record { low = p .0; high = p .1 }
 
 -- a field rule whose number is 0 is kept
-sound : (fields : Bool) (number : ℕ) → 0 < number → refusedIf (not fields) number ≡ 0 → fields ≡ true
+pub sound : (fields : Bool) (number : ℕ) → 0 < number → refusedIf (not fields) number ≡ 0 → fields ≡ true
 sound fields number p h = not-false fields (kept (not fields) number p h)
 
 pub site-in : (s : Site) → siteRefusal s ≡ 0 → SiteIn s
@@ -34,16 +34,16 @@ site-in s h =
     let p = none-broken _ _ h in
     let a = kept (ltb 1500 (s .altitude)) 7 (omega arith) (p .1) in
     let f = sound (siteFields s) 6 (omega arith) (p .0) in
-    let f₄ = both (within 100 25000 (s .sk) && within 80 120 (s .ce) && within 1 100 (s .ct) && within 100 300 (s .cesl)) (leb (s .situation) 1) f in
-    let f₃ = both (within 100 25000 (s .sk) && within 80 120 (s .ce) && within 1 100 (s .ct)) (within 100 300 (s .cesl)) (f₄ .0) in
-    let f₂ = both (within 100 25000 (s .sk) && within 80 120 (s .ce)) (within 1 100 (s .ct)) (f₃ .0) in
-    let f₁ = both (within 100 25000 (s .sk)) (within 80 120 (s .ce)) (f₂ .0) in
+    let f₃ = both (groundField (s .sk)) (otherFields (s .ce) (s .ct) (s .cesl) (s .situation)) f in
+    let f₂ = both (within 80 120 (s .ce) && within 1 100 (s .ct) && within 100 300 (s .cesl)) (leb (s .situation) 1) (f₃ .1) in
+    let f₁ = both (within 80 120 (s .ce) && within 1 100 (s .ct)) (within 100 300 (s .cesl)) (f₂ .0) in
+    let f₀ = both (within 80 120 (s .ce)) (within 1 100 (s .ct)) (f₁ .0) in
     record {
-      sk = range 100 25000 (s .sk) (f₁ .0);
-      ce = range 80 120 (s .ce) (f₁ .1);
-      ct = range 1 100 (s .ct) (f₂ .1);
-      cesl = range 100 300 (s .cesl) (f₃ .1);
-      situation = leb-true (s .situation) 1 (f₄ .1);
+      sk = range 100 25000 (s .sk) (f₃ .0);
+      ce = range 80 120 (s .ce) (f₀ .0);
+      ct = range 1 100 (s .ct) (f₀ .1);
+      cesl = range 100 300 (s .cesl) (f₁ .1);
+      situation = leb-true (s .situation) 1 (f₂ .1);
       altitude = ltb-false 1500 (s .altitude) a;
     }
 

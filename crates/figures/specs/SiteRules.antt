@@ -6,16 +6,22 @@ use Rattle.figures.specs.Ranges.{within}
 use Rattle.figures.specs.Rules.{refusedIf, firstOf}
 use Rattle.figures.specs.declared.site.Site.{Site}
 
--- sk 100..25,000; Ce 80..120; Ct 1..100; Cesl 100..300; situation 0 or 1
-abbrev pub siteFields : Site → Bool
-siteFields s =
-    within 100 25000 (s .sk)
-    && within 80 120 (s .ce)
-    && within 1 100 (s .ct)
-    && within 100 300 (s .cesl)
-    && leb (s .situation) 1
+-- sk 100..25,000
+abbrev pub groundField : ℕ → Bool
+groundField sk = within 100 25000 sk
 
--- "6 site field outside its range, altitude apart; 7 altitude above 1,500": the first that a site breaks, 0 for none.
+-- Ce 80..120; Ct 1..100; Cesl 100..300; situation 0 or 1
+abbrev pub otherFields : ℕ → ℕ → ℕ → ℕ → Bool
+otherFields ce ct cesl situation = within 80 120 ce && within 1 100 ct && within 100 300 cesl && leb situation 1
+
+abbrev pub siteFields : Site → Bool
+siteFields s = groundField (s .sk) && otherFields (s .ce) (s .ct) (s .cesl) (s .situation)
+
+-- "7 altitude above 1,500"
+abbrev pub altitudeRefusal : ℕ → ℕ
+altitudeRefusal altitude = refusedIf (ltb 1500 altitude) 7
+
+-- "6 site field outside its range, altitude apart", then 7: the first that a site breaks, 0 for none.
 -- "A site is accepted" (document 01, words of demand 3) where this is 0
 unfoldable pub siteRefusal : Site → ℕ
-siteRefusal s = firstOf (refusedIf (not (siteFields s)) 6) (refusedIf (ltb 1500 (s .altitude)) 7)
+siteRefusal s = firstOf (refusedIf (not (siteFields s)) 6) (altitudeRefusal (s .altitude))

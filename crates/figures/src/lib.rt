@@ -11,5 +11,7 @@ pub use roof::Slope;
 pub use roof::kind_of;
 pub use rules::first;
 pub use rules::refused_if;
+pub use site::Ground;
 pub use site::Site;
+pub use site::SiteData;
 pub use slopes::slope_at;

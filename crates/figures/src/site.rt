@@ -1,8 +1,24 @@
-// A site.
+// A site, and the data that an item has of one.
 
 // Ground load sk in N/m²; Ce, Ct and Cesl in hundredths; altitude in m. Situation 1 has exceptional falls.
 pub struct Site {
     pub sk: u32,
+    pub ce: u16,
+    pub ct: u16,
+    pub cesl: u16,
+    pub situation: u8,
+    pub altitude: u16,
+}
+
+// The ground load of an item's site: it is given, or a region and a zone of the map give it with the altitude.
+pub enum Ground {
+    Given(u32),
+    OnMap { region: u8, zone: u8 },
+}
+
+// A site as its item has it.
+pub struct SiteData {
+    pub ground: Ground,
     pub ce: u16,
     pub ct: u16,
     pub cesl: u16,

@@ -7,13 +7,13 @@ use lib.ListN.{length}
 use native.Mathlib.Omega.{arith}
 use Rattle.little_endian.specs.Numbers.{byteAt}
 use Rattle.items.specs.Items.{malformed, sized, siteItem, monopitchItem, pitchedItem, multiSpanItem, cylindricalItem, abuttingItem, projectionItem}
-use Rattle.items.specs.Items.{byKind, content}
+use Rattle.items.specs.Items.{mapSiteItem, byKind, content}
 use Rattle.items.specs.declared.decoding.Item.{Item}
 use Rattle.items.specs.declared.decoding.Item.the-variants.{SiteItem, RoofItem, Malformed}
 use Rattle.items.specs.declared.decoding.Decoded.{Decoded}
 
 abbrev pub Numbered : Item → Type 0
-Numbered (SiteItem site) = Unit {0}
+Numbered (SiteItem fields) = Unit {0}
 Numbered (RoofItem shape) = Unit {0}
 Numbered (Malformed number) = 0 < number
 
@@ -26,7 +26,7 @@ unfolding sized
 of-size n p d h = either (eqb (length p) n) d (malformed 4) h (omega arith)
 
 by-kind : (k : ℕ) (p : List ℕ) → Numbered (byKind k p .item)
-unfolding byKind siteItem monopitchItem pitchedItem multiSpanItem cylindricalItem abuttingItem projectionItem
+unfolding byKind siteItem monopitchItem pitchedItem multiSpanItem cylindricalItem abuttingItem projectionItem mapSiteItem
 by-kind k p =
     either (eqb k 1) _ _ (of-size _ p _ tt)
     (either (eqb k 2) _ _ (of-size _ p _ tt)
@@ -34,7 +34,8 @@ by-kind k p =
     (either (eqb k 4) _ _ (of-size _ p _ tt)
     (either (eqb k 5) _ _ (of-size _ p _ tt)
     (either (eqb k 6) _ _ (of-size _ p _ tt)
-    (either (eqb k 7) _ _ (of-size _ p _ tt) (omega arith)))))))
+    (either (eqb k 7) _ _ (of-size _ p _ tt)
+    (either (eqb k 8) _ _ (of-size _ p _ tt) (omega arith))))))))
 
 pub numbered : (p : List ℕ) → Numbered (content p .item)
 unfolding content

@@ -1,4 +1,4 @@
--- An item: its first byte is its kind; fields follow in the order that document 01 gives.
+-- An item: its first byte is its kind; fields follow in the order that documents 01 and 02 give.
 use Prim.Native.Nat.{ℕ, zero, suc, _+_, _*_, min}
 use mathlib.Core.Bool.{cond}
 use mathlib.Core.List.{List, [], _∷_}
@@ -6,7 +6,9 @@ use lib.Dec.{eqb}
 use lib.ListN.{length}
 use lib.Seq.{sets}
 use Rattle.figures.specs.RoofRules.{noSlopes}
-use Rattle.figures.specs.declared.site.Site.{Site}
+use Rattle.figures.specs.declared.site.Ground.{Ground}
+use Rattle.figures.specs.declared.site.Ground.the-variants.{Given, OnMap}
+use Rattle.figures.specs.declared.site.SiteData.{SiteData}
 use Rattle.figures.specs.declared.roof.Slope.{Slope}
 use Rattle.figures.specs.declared.roof.Shape.the-variants.{Monopitch, Pitched, MultiSpan, Cylindrical, Abutting, Projection}
 use Rattle.little_endian.specs.Numbers.{byteAt, le16, le32}
@@ -26,12 +28,21 @@ malformed number = itemAlone (Malformed number)
 unfoldable pub sized : ℕ → List ℕ → Decoded → Decoded
 sized n p d = cond (eqb (length p) n) d (malformed 4)
 
--- 1, site, 14 bytes: sk (32), Ce (16), Ct (16), Cesl (16), situation (8), altitude (16)
-abbrev pub siteOf : List ℕ → Site
-siteOf p = record { sk = le32 p 1; ce = le16 p 5; ct = le16 p 7; cesl = le16 p 9; situation = byteAt p 11; altitude = le16 p 12 }
+-- a site with its ground load, whose fields from Ce on begin at a byte: Ce (16), Ct (16), Cesl (16), situation (8), altitude (16)
+abbrev pub siteDataAt : List ℕ → ℕ → Ground → SiteData
+siteDataAt p at ground =
+    record {
+      ground = ground;
+      ce = le16 p at;
+      ct = le16 p (at + 2);
+      cesl = le16 p (at + 4);
+      situation = byteAt p (at + 6);
+      altitude = le16 p (at + 7);
+    }
 
+-- 1, site, 14 bytes: sk (32), then Ce and the fields after it
 unfoldable pub siteItem : List ℕ → Decoded
-siteItem p = sized 14 p (itemAlone (SiteItem (siteOf p)))
+siteItem p = sized 14 p (itemAlone (SiteItem (siteDataAt p 5 (Given (le32 p 1)))))
 
 -- a slope whose pitch (16) and width (32) begin at two bytes
 abbrev pub slopeAt : List ℕ → ℕ → ℕ → Slope
@@ -73,6 +84,10 @@ abuttingItem p = sized 20 p (itemAlone (RoofItem (Abutting (le32 p 1) (le32 p 5)
 unfoldable pub projectionItem : List ℕ → Decoded
 projectionItem p = sized 13 p (itemAlone (RoofItem (Projection (le32 p 1) (le32 p 5) (le32 p 9))))
 
+-- "a site item of kind 8, 12 bytes: region (8 bits), zone (8 bits), then kind 1's fields from Ce on"
+unfoldable pub mapSiteItem : List ℕ → Decoded
+mapSiteItem p = sized 12 p (itemAlone (SiteItem (siteDataAt p 3 (OnMap (byteAt p 1) (byteAt p 2)))))
+
 -- by its kind; "3 unknown kind"
 unfoldable pub byKind : ℕ → List ℕ → Decoded
 byKind kind p =
@@ -83,7 +98,8 @@ byKind kind p =
     (cond (eqb kind 5) (cylindricalItem p)
     (cond (eqb kind 6) (abuttingItem p)
     (cond (eqb kind 7) (projectionItem p)
-    (malformed 3)))))))
+    (cond (eqb kind 8) (mapSiteItem p)
+    (malformed 3))))))))
 
 -- what an item's bytes say: "empty (4), 3, 4"
 unfoldable pub content : List ℕ → Decoded

@@ -2,11 +2,12 @@
 ghost use mathlib.Core.Path.{_≡_};
 ghost use Prim.Native.Nat.{_+_, _*_, _≤_, min};
 ghost use lib.ListN.{length};
-ghost use Rattle.items.specs.Items.{itemAlone, malformed, slopeAt, slopesFrom, content};
-ghost use Rattle.items.specs.Items.{siteItem, monopitchItem, pitchedItem, multiSpanItem, cylindricalItem, abuttingItem, projectionItem};
+ghost use Rattle.items.specs.Items.{itemAlone, malformed, siteDataAt, slopeAt, slopesFrom, content};
+ghost use Rattle.items.specs.Items.{siteItem, monopitchItem, pitchedItem, multiSpanItem, cylindricalItem, abuttingItem, projectionItem, mapSiteItem};
+use figures::Ground;
 use figures::SLOPE_NUMBERS;
 use figures::Shape;
-use figures::Site;
+use figures::SiteData;
 use figures::Slope;
 use little_endian::byte_to_usize;
 use little_endian::u16_at;
@@ -20,7 +21,7 @@ const ITEM_LENGTH: u8 = 4;
 
 // What an item's bytes say: a site, the shape of a roof, or the number of their refusal.
 pub enum Item {
-    SiteItem(Site),
+    SiteItem(SiteData),
     RoofItem(Shape),
     Malformed(u8),
 }
@@ -47,21 +48,43 @@ fn refused(number: u8) -> Decoded
     alone(Item::Malformed(number))
 }
 
+// A site with its ground load, whose fields from Ce on begin at a byte.
+fn site_data_at(p: &[u8], at: usize, ground: Ground) -> SiteData
+    requires { ⌜ at + 9 ≤ length (now p) ⌝ }
+    ensures { λ r. ⌜ r ≡ siteDataAt (now (p .entry)) at ground ⌝ }
+{
+    SiteData {
+        ground: ground,
+        ce: u16_at(p, at),
+        ct: u16_at(p, at + 2),
+        cesl: u16_at(p, at + 4),
+        situation: p[at + 6],
+        altitude: u16_at(p, at + 7),
+    }
+}
+
 fn site_item(p: &[u8]) -> Decoded
     ensures { λ r. ⌜ r ≡ siteItem (now (p .entry)) ⌝ }
 {
     if p.len() != 14 {
         return refused(ITEM_LENGTH);
     }
-    let site = Site {
-        sk: u32_at(p, 1),
-        ce: u16_at(p, 5),
-        ct: u16_at(p, 7),
-        cesl: u16_at(p, 9),
-        situation: p[11],
-        altitude: u16_at(p, 12),
+    let ground = Ground::Given(u32_at(p, 1));
+    alone(Item::SiteItem(site_data_at(p, 5, ground)))
+}
+
+// A site on the map.
+fn map_site_item(p: &[u8]) -> Decoded
+    ensures { λ r. ⌜ r ≡ mapSiteItem (now (p .entry)) ⌝ }
+{
+    if p.len() != 12 {
+        return refused(ITEM_LENGTH);
+    }
+    let ground = Ground::OnMap {
+        region: p[1],
+        zone: p[2],
     };
-    alone(Item::SiteItem(site))
+    alone(Item::SiteItem(site_data_at(p, 3, ground)))
 }
 
 // A slope whose pitch and width begin at two bytes.
@@ -210,6 +233,7 @@ pub fn decode(p: &[u8]) -> Decoded
         5 => cylindrical_item(p),
         6 => abutting_item(p),
         7 => projection_item(p),
+        8 => map_site_item(p),
         _ => refused(UNKNOWN_KIND),
     }
 }

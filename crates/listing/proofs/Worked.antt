@@ -1,4 +1,4 @@
--- The example of document 01, computed from the definitions.
+-- The example of document 01, and the same roof at a site on the map, computed from the definitions.
 use Prim.Native.Nat.{ℕ}
 use mathlib.Core.List.{List, [], _∷_}
 use mathlib.Core.Path.{_≡_, refl}
@@ -8,6 +8,7 @@ use Rattle.figures.specs.SiteRules.{siteRefusal}
 use Rattle.force_rows.specs.Rows.{slopeRows, forceRows}
 use Rattle.roof_rows.specs.Rows.{segmentRows, codeRows, codesRows, arrangementRows}
 use Rattle.roof_rows.specs.Rows.{roofRows}
+use Rattle.ground_loads.specs.Sites.{siteDataRefusal}
 use Rattle.listing.specs.Listing.{itemRows, itemsRows, listingBy, listing}
 use Rattle.rounding.specs.Limit.{larger}
 use Rattle.rounding.specs.Load.{breakLoad}
@@ -44,7 +45,7 @@ text =
 pub example : listing sheet ≡ text
 unfolding listing listingBy itemsRows itemRows roofRows arrangementRows codesRows codeRows segmentRows forceRows slopeRows sheetSite sheetRoof
     sheetVerdict pairsVerdict inTurn pairNumber itemNumber content byKind siteItem monopitchItem sized
-    siteRefusal shapeRefusal firstOf
+    siteDataRefusal siteRefusal shapeRefusal firstOf
     exists existsIn count countIn stretch stretchIn factorOf monopitch
     mu1 guarded segment startOf readIn load reading breakLoad roundedUp ceilDiv larger
     slopeAt slopeLoad wholeLoad overhangAt guardAt guardForce guardRule sineEntry sineReference

@@ -7,9 +7,9 @@ use denote.Enum.Declared
 use native.Mathlib.Omega.{arith}
 use types.Run.{OneOf}
 use Rattle.items.proofs.decoding.Item as the-item
-use Rattle.items.specs.Figures.{noSite, noRoof, siteBy, roofBy}
 use Rattle.items.specs.declared.decoding.Item.{Item}
 use Rattle.items.specs.declared.decoding.Item.the-variants.{SiteItem, RoofItem, Malformed}
+use Rattle.sheet.specs.Figures.{noSite, noRoof, siteBy, roofBy}
 use Rattle.sheet.specs.Sheet.{misplaced, ruleNumber}
 
 -- the variant of an item, counted from 0
@@ -18,20 +18,20 @@ variant x = Declared.tagOf the-item.the-type x
 
 -- an item of another variant than the site's is no site, and its number in the first place is that of its misplacement
 pub first-misplaced : (x : Item) (l : List ℕ) → OneOf (1 ∷ 2 ∷ []) (variant x) → (misplaced x ≡ ruleNumber 0 x l) × (noSite ≡ siteBy x)
-first-misplaced (SiteItem site) l (inl e) = absurd (omega arith)
-first-misplaced (SiteItem site) l (inr e) = absurd (omega arith)
+first-misplaced (SiteItem fields) l (inl e) = absurd (omega arith)
+first-misplaced (SiteItem fields) l (inr e) = absurd (omega arith)
 first-misplaced (RoofItem shape) l v = (refl, refl)
 first-misplaced (Malformed number) l v = (refl, refl)
 
 -- and so for a roof in a later place
 pub later-misplaced : (x : Item) (l : List ℕ) → OneOf (0 ∷ 2 ∷ []) (variant x) → (misplaced x ≡ ruleNumber 1 x l) × (noRoof ≡ roofBy x l)
-later-misplaced (SiteItem site) l v = (refl, refl)
+later-misplaced (SiteItem fields) l v = (refl, refl)
 later-misplaced (RoofItem shape) l (inl e) = absurd (omega arith)
 later-misplaced (RoofItem shape) l (inr e) = absurd (omega arith)
 later-misplaced (Malformed number) l v = (refl, refl)
 
 -- every index after the first is one place
 pub later : (i : ℕ) (x : Item) (l : List ℕ) → (i ≡ 0 → ⊥) → ruleNumber 1 x l ≡ ruleNumber i x l
-later i (SiteItem site) l h = let e : i ≡ suc (i - 1) = omega arith in rw e
+later i (SiteItem fields) l h = let e : i ≡ suc (i - 1) = omega arith in rw e
 later i (RoofItem shape) l h = let e : i ≡ suc (i - 1) = omega arith in rw e
 later i (Malformed number) l h = refl

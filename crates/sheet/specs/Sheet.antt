@@ -1,4 +1,4 @@
--- The sheet: the verdict on it, and its items. Refusals 3 to 10 item by item, and 12 for an index.
+-- The sheet: the verdict on it, and its items. Refusals 3 to 10, 14 and 15 item by item, and 12 for an index.
 use Prim.Native.Nat.{ℕ, zero, suc, _+_, _*_, _≤_}
 use mathlib.Core.Bool.{cond}
 use mathlib.Core.List.{List, []}
@@ -6,7 +6,7 @@ use mathlib.Core.Path.{_≡_}
 use lib.Dec.{ltb}
 use lib.ListN.{length, take, drop}
 use Rattle.figures.specs.RoofRules.{shapeRefusal}
-use Rattle.figures.specs.SiteRules.{siteRefusal}
+use Rattle.ground_loads.specs.Sites.{siteDataRefusal}
 use Rattle.items.specs.Items.{content}
 use Rattle.items.specs.declared.decoding.Item.{Item}
 use Rattle.items.specs.declared.decoding.Item.the-variants.{SiteItem, RoofItem, Malformed}
@@ -21,11 +21,11 @@ abbrev pub part : List ℕ → ℕ → List ℕ
 part s i = take (size s i) (drop (offset s i) s)
 
 -- the first rule that an item at an index breaks, 0 where it breaks none: the refusal of its form, then
--- "5 first item no site, or a later site", then the value rules 6 to 10
+-- "5 first item no site, or a later site", then the value rules 6 to 10, 14 and 15
 abbrev pub ruleNumber : ℕ → Item → List ℕ → ℕ
 ruleNumber index (Malformed number) slopes = number
-ruleNumber zero (SiteItem site) slopes = siteRefusal site
-ruleNumber (suc index) (SiteItem site) slopes = 5
+ruleNumber zero (SiteItem fields) slopes = siteDataRefusal fields
+ruleNumber (suc index) (SiteItem fields) slopes = 5
 ruleNumber zero (RoofItem shape) slopes = 5
 ruleNumber (suc index) (RoofItem shape) slopes = shapeRefusal shape slopes
 
@@ -35,7 +35,7 @@ ruleOf index d = ruleNumber index (d .item) (d .slopes)
 -- the number of an item that may not stand where it does: the refusal of its form, or 5
 abbrev pub misplaced : Item → ℕ
 misplaced (Malformed number) = number
-misplaced (SiteItem site) = 5
+misplaced (SiteItem fields) = 5
 misplaced (RoofItem shape) = 5
 
 -- "then item by item empty (4), 3, 4, 5, and the value rules": the first rule that item i breaks

@@ -7,6 +7,7 @@ ghost use Rattle.pairs.specs.Pairs.{terminals, offset, size, inTurn, pairsVerdi
 ghost use Rattle.sheet.specs.Sheet.{part, misplaced, ruleOf, itemNumber};
 ghost use Rattle.pairs.specs.Pairs.{accepted, verdictMeans};
 ghost use Rattle.sheet.specs.Sheet.{sheetVerdict, place, partAt, locatedMeans};
+use ground_loads::site_data_refusal;
 use items::Item;
 use items::decode;
 use little_endian::index_at;
@@ -14,7 +15,6 @@ use pairs::Ceiling;
 use pairs::Verdict;
 use pairs::read_pairs;
 use roof_rules::shape_refusal;
-use site_rules::site_refusal;
 
 // Refusals that the reader adds, by document 01's numbers.
 const SITE_PLACE: u8 = 5;
@@ -44,10 +44,10 @@ fn first_number(p: &[u8]) -> u8
 {
     let decoded = decode(p);
     let item = decoded.item;
-    let Item::SiteItem(site) = item else {
+    let Item::SiteItem(fields) = item else {
         return misplaced_number(item);
     };
-    site_refusal(site)
+    site_data_refusal(fields)
 }
 
 // The first rule that a later item breaks.

@@ -1,1 +1,2 @@
+pub mod MapSites
 pub mod Sound

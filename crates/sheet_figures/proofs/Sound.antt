@@ -7,8 +7,8 @@ use Rattle.figures.specs.RoofRules.{roofRefusal}
 use Rattle.figures.specs.SiteRules.{siteRefusal}
 use Rattle.figures.specs.declared.site.Site.{Site}
 use Rattle.figures.specs.declared.roof.Roof.{Roof}
+use Rattle.ground_loads.proofs.Kept.{site-accepted}
 use Rattle.items.proofs.Numbered.{Numbered, numbered}
-use Rattle.items.specs.Figures.{noSite, noRoof, siteBy, roofBy}
 use Rattle.items.specs.Items.{content}
 use Rattle.items.specs.declared.decoding.Item.{Item}
 use Rattle.items.specs.declared.decoding.Item.the-variants.{SiteItem, RoofItem, Malformed}
@@ -16,16 +16,17 @@ use Rattle.items.specs.declared.decoding.Decoded.{Decoded}
 use Rattle.sheet.proofs.Kept.{located-in}
 use Rattle.sheet_figures.specs.Find.{sheetSite, sheetRoof, foundIn, foundBy, found}
 use Rattle.pairs.specs.Pairs.{Answer, accepted, refused, terminals}
-use Rattle.sheet.specs.Sheet.{Place, part, ruleNumber, itemNumber, place}
+use Rattle.sheet.specs.Figures.{noSite, noRoof, siteBy, roofBy}
+use Rattle.sheet.specs.Sheet.{Place, part, ruleNumber, ruleOf, itemNumber, place}
 use Rattle.sheet_figures.specs.declared.Finding.the-variants.{RoofFound, NoRoof, Refused}
 
 site-by : (x : Item) (l : List ℕ) → Numbered x → ruleNumber 0 x l ≡ 0 → siteRefusal (siteBy x) ≡ 0
-site-by (SiteItem site) l n e = e
+site-by (SiteItem fields) l n e = site-accepted fields e
 site-by (RoofItem shape) l n e = absurd (omega arith)
 site-by (Malformed number) l n e = absurd (omega arith)
 
 roof-by : (i : ℕ) (x : Item) (l : List ℕ) → Numbered x → ruleNumber (suc i) x l ≡ 0 → roofRefusal (roofBy x l) ≡ 0
-roof-by i (SiteItem site) l n e = absurd (omega arith)
+roof-by i (SiteItem fields) l n e = absurd (omega arith)
 roof-by i (RoofItem shape) l n e = e
 roof-by i (Malformed number) l n e = absurd (omega arith)
 
@@ -44,6 +45,10 @@ module _ (s : List ℕ) where
 
   -- the figures of an item by its bytes
   module _ (p : List ℕ) (d : Decoded) (told : d ≡ content p) where
+    pub site-told : p ≡ part s 0 → itemNumber s 0 ≡ 0 → ruleOf 0 d ≡ 0
+    unfolding itemNumber
+    site-told e h = rw (told, e) h
+
     pub site-is : (r : Site) → p ≡ part s 0 → r ≡ siteBy (d .item) → itemNumber s 0 ≡ 0 → (r ≡ sheetSite s) × (siteRefusal r ≡ 0)
     unfolding sheetSite
     site-is r e f h =

@@ -3,13 +3,14 @@ ghost use mathlib.Core.Path.{_≡_};
 ghost use Prim.Native.Nat.{_<_};
 ghost use Rattle.figures.specs.RoofRules.{roofRefusal};
 ghost use Rattle.figures.specs.SiteRules.{siteRefusal};
-ghost use Rattle.items.specs.Figures.{noSite, noRoof, siteBy, roofBy};
-ghost use Rattle.sheet.specs.Sheet.{ItemIn};
+ghost use Rattle.sheet.specs.Figures.{noSite, noRoof, siteBy, roofBy};
+ghost use Rattle.sheet.specs.Sheet.{ItemIn, ruleOf};
 ghost use Rattle.sheet_figures.specs.Find.{sheetSite, sheetRoof, foundIn, found};
 use figures::Roof;
 use figures::SLOPE_NUMBERS;
 use figures::Shape;
 use figures::Site;
+use ground_loads::site_from;
 use items::Decoded;
 use items::Item;
 use items::decode;
@@ -54,15 +55,16 @@ fn no_roof() -> Roof
     }
 }
 
-// The site that an item says.
+// The site that a first item says that is sound: a site on the map has its ground load from there.
 fn site_of(decoded: Decoded) -> Site
+    requires { ⌜ ruleOf 0 decoded ≡ 0 ⌝ }
     ensures { λ r. ⌜ r ≡ siteBy (decoded .item) ⌝ }
 {
     let item = decoded.item;
-    let Item::SiteItem(site) = item else {
+    let Item::SiteItem(fields) = item else {
         return no_site();
     };
-    site
+    site_from(fields)
 }
 
 // The roof that an item says.

@@ -1,4 +1,5 @@
-// Calls for the terminals' firmware, in C's terms. Each takes any bytes as a sheet; a slice is a pointer and its length.
+// Calls for the terminals' firmware, in C's terms. Each takes any bytes as a sheet and any numbers; a slice is a pointer and
+// its length.
 ghost use mathlib.Core.Path.{_≡_};
 ghost use Prim.Native.Nat.{_≤_};
 ghost use lib.ListN.{length};
@@ -6,9 +7,12 @@ ghost use Rattle.listing.specs.Listing.{listed, bytesAfter};
 ghost use Rattle.sheet_figures.specs.Find.{found};
 ghost use Rattle.pairs.specs.Pairs.{terminals};
 ghost use Rattle.sheet.specs.Sheet.{sheetVerdict};
-ghost use Rattle.answer_codes.specs.Codes.{verdictCode};
+ghost use Rattle.answer_codes.specs.Codes.{verdictCode, groundCode};
+ghost use Rattle.ground_loads.specs.Sites.{groundAnswer};
 ghost use Rattle.item_answers.specs.Calls.{makeCode, sliceAfter, loadCode, overhangCode, guardCode};
+use answer_codes::ground;
 use answer_codes::refusal;
+use ground_loads::ground_load;
 use item_answers::guard_force_at;
 use item_answers::load_at;
 use item_answers::make_at;
@@ -70,4 +74,12 @@ pub extern "C" fn snow_list(sheet: &[u8], out: &mut [u8]) -> usize
 {
     let mut numbers = [0; listing::NUMBERS];
     listing::list(sheet, &mut numbers, out)
+}
+
+// The ground load of a region, a zone and an altitude by the map, or a refusal.
+#[no_mangle]
+pub extern "C" fn snow_ground_load(region: u8, zone: u8, altitude: u16) -> u32
+    ensures { λ r. ⌜ r ≡ groundCode (groundAnswer region zone altitude) ⌝ }
+{
+    ground(ground_load(region, zone, altitude))
 }

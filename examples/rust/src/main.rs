@@ -1,4 +1,5 @@
-//! Asks the six calls about one sheet, prints every answer and checks what the header says of them.
+//! Asks the calls about one sheet and about some ground loads, prints every answer and checks what
+//! the header says of them.
 //!
 //!     terminal_example SHEET         all answers; the exit code is 1 where a check fails
 //!     terminal_example SHEET list    the listing alone
@@ -20,6 +21,29 @@ const MARK: u32 = u32::from_ne_bytes([MARK_BYTE; 4]);
 const CODES: [u8; 6] = [1, 2, 3, 11, 12, 13];
 /// No sheet has such an item.
 const MISSING: [usize; 6] = [255, 256, 65_534, 65_535, 65_536, usize::MAX];
+/// A region, a zone and an altitude in m.
+type Place = (u8, u8, u16);
+const ON_MAP: [Place; 8] = [
+    (1, 2, 500),
+    (2, 3, 300),
+    (3, 1, 650),
+    (4, 4, 800),
+    (5, 2, 452),
+    (6, 5, 120),
+    (7, 3, 60),
+    (8, 1, 250),
+];
+/// Places without a ground load, and the number that refuses each.
+const OFF_MAP: [(Place, u32); 8] = [
+    ((9, 6, 1_501), 7),
+    ((1, 2, 65_535), 7),
+    ((0, 1, 1_500), 14),
+    ((9, 1, 0), 14),
+    ((8, 0, 0), 14),
+    ((2, 6, 1_500), 14),
+    ((8, 1, 0), 15),
+    ((2, 5, 1_500), 15),
+];
 
 /// A sheet, and the checks on what the calls answer about it.
 struct Caller {
@@ -154,6 +178,31 @@ impl Caller {
         self.check_refused(item, Answer::refused(12, item));
     }
 
+    fn ground_load(&self, place: Place) -> Answer {
+        let (region, zone, altitude) = place;
+        let answer = snow::ground_load(region, zone, altitude);
+        println!(
+            "GROUND region {region} zone {zone} at {altitude} m: {}",
+            answer.with_unit("N/m2")
+        );
+        answer
+    }
+
+    /// A ground load of each region, which is no less a metre higher up, and places that are
+    /// refused. Where several numbers hold, the first in the order is given.
+    fn ask_map(&mut self) {
+        for place in ON_MAP {
+            let load = self.ground_load(place).value();
+            let above = snow::ground_load(place.0, place.1, place.2 + 1).value();
+            let rises = load >= Some(100) && load <= above && above <= Some(25_000);
+            self.check(rises, "a ground load falls or is out of range", 0);
+        }
+        for (place, number) in OFF_MAP {
+            let refused = self.ground_load(place) == Answer::refused(number, 0);
+            self.check(refused, "a ground load is refused otherwise", 0);
+        }
+    }
+
     /// Prints the listing; the count of its lines. One byte of room too little alters nothing.
     fn list(&mut self) -> io::Result<usize> {
         let mut text = vec![MARK_BYTE; snow::LIST_ROOM];
@@ -183,6 +232,7 @@ impl Caller {
         }
         let listed = self.list()?;
         self.check(listed == lines, "the listing has other lines", 0);
+        self.ask_map();
         println!("CHECKS: {}", self.checks);
         Ok(())
     }

@@ -1,4 +1,4 @@
-//! The six calls as safe functions on slices.
+//! The seven calls as safe functions.
 
 /// A number of bytes that holds the listing of any sheet.
 pub const LIST_ROOM: usize = 275_557;
@@ -54,8 +54,9 @@ impl From<u32> for Answer {
     }
 }
 
-/// The calls as the header has them. Each owes pointers that are not null and aligned, with the
-/// lengths given, and memory lent for writing that overlaps nothing else. Slices promise all of it.
+/// The calls as the header has them. Each with a sheet owes pointers that are not null and aligned,
+/// with the lengths given, and memory lent for writing that overlaps nothing else. Slices promise
+/// all of it.
 mod ffi {
     extern "C" {
         pub fn snow_verdict(sheet: *const u8, length: usize) -> u32;
@@ -77,6 +78,7 @@ mod ffi {
         pub fn snow_overhang(sheet: *const u8, length: usize, item: usize, slope: u8) -> u32;
         pub fn snow_guard_force(sheet: *const u8, length: usize, item: usize, slope: u8) -> u32;
         pub fn snow_list(sheet: *const u8, length: usize, out: *mut u8, room: usize) -> usize;
+        pub fn snow_ground_load(region: u8, zone: u8, altitude: u16) -> u32;
     }
 }
 
@@ -116,4 +118,10 @@ pub fn list(sheet: &[u8], out: &mut [u8]) -> usize {
     let (room, out) = (out.len(), out.as_mut_ptr());
     // SAFETY: both slices have the lengths given, and the lent one is borrowed alone.
     unsafe { ffi::snow_list(sheet.as_ptr(), sheet.len(), out, room) }
+}
+
+/// The ground load sk of a map site, in N/m².
+pub fn ground_load(region: u8, zone: u8, altitude: u16) -> Answer {
+    // SAFETY: the call takes numbers alone.
+    unsafe { ffi::snow_ground_load(region, zone, altitude) }.into()
 }

@@ -1,6 +1,6 @@
 use mathlib.Core.Path.{sym, ap, _∙_}
 use Rattle.items.specs.declared.decoding.Item.{Item}
-use Rattle.items.specs.Figures.{roofBy}
+use Rattle.sheet.specs.Figures.{roofBy}
 use Rattle.sheet.proofs.Places.{later-misplaced}
 use borrow.Author.Needs.{needs}
 use Rattle.sheet_figures.proofs.roof_of.Statement.{statement}

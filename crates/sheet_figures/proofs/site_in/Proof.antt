@@ -1,4 +1,4 @@
-use Rattle.sheet_figures.proofs.Sound.{site-is}
+use Rattle.sheet_figures.proofs.Sound.{site-told, site-is}
 use borrow.Author.Needs.{needs}
 use Rattle.sheet_figures.proofs.site_in.Statement.{statement}
 use Rattle.sheet_figures.proofs.site_in.Tie as tie
@@ -10,7 +10,7 @@ decode-requires : tie.Need-decode-requires
 decode-requires c κs = search needs
 
 site-of-requires : tie.Need-site-of-requires
-site-of-requires c κs = search needs
+site-of-requires c κs = site-told _ _ (c .decode .result) (c .decode .ensures) (c .before .part-at .ensures) (c .before .before .before .pre .sound)
 
 returns : tie.Need-returns
 returns c =

@@ -1,5 +1,7 @@
 use mathlib.Core.Path.{sym, ap, _∙_}
-use Rattle.items.specs.Figures.{siteBy}
+use Rattle.items.specs.declared.decoding.Item.{Item}
+use Rattle.sheet.specs.Figures.{siteBy}
+use Rattle.sheet.specs.Sheet.{ruleNumber}
 use Rattle.sheet.proofs.Places.{first-misplaced}
 use borrow.Author.Needs.{needs}
 use Rattle.sheet_figures.proofs.site_of.Statement.{statement}
@@ -16,8 +18,14 @@ returns c =
     let d = c .before .before .args .decoded in
     c .no-site .ensures ∙ first-misplaced (d .item) (d .slopes) (c .before .match .keys2) .1
 
+site-from-requires : tie.Need-site-from-requires
+site-from-requires c κs =
+    let a = c .before .before .before in
+    sym (ap (λ (x : Item). ruleNumber 0 x (a .args .decoded .slopes)) (c .before .item .given .1)) ∙ a .pre
+
 returns-2 : tie.Need-returns-2
-returns-2 c = ap siteBy (sym (c .before .item .given .1))
+returns-2 c = c .site-from .ensures .0 ∙ ap siteBy (sym (c .before .before .item .given .1))
 
 pub site-of-spec : {M : Type 1} → statement M
-site-of-spec = tie.close (tie.spec enum-known-item no-site-requires returns returns-2)
+site-of-spec =
+    tie.close (tie.spec enum-known-item no-site-requires returns site-from-requires returns-2)

@@ -9,8 +9,8 @@ site-fields-requires c κs = search needs
 refused-if-requires : tie.Need-refused-if-requires
 refused-if-requires c κs = search needs
 
-refused-if-requires-2 : tie.Need-refused-if-requires-2
-refused-if-requires-2 c κs = search needs
+altitude-refusal-requires : tie.Need-altitude-refusal-requires
+altitude-refusal-requires c κs = search needs
 
 first-requires : tie.Need-first-requires
 first-requires c κs = search needs
@@ -25,6 +25,6 @@ site-refusal-spec =
     (tie.spec
     site-fields-requires
     refused-if-requires
-    refused-if-requires-2
+    altitude-refusal-requires
     first-requires
     returns)

@@ -39,6 +39,9 @@ abutting-item-requires c κs = search needs
 projection-item-requires : tie.Need-projection-item-requires
 projection-item-requires c κs = search needs
 
+map-site-item-requires : tie.Need-map-site-item-requires
+map-site-item-requires c κs = search needs
+
 refused-requires-2 : tie.Need-refused-requires-2
 refused-requires-2 c κs = search needs
 
@@ -67,10 +70,14 @@ unfolding byKind
 returns-8 c = c .projection-item .ensures ∙ of-kind _ (c .before .before .before .before .if1 .left) 7 (c .before .match .keys6)
 
 returns-9 : tie.Need-returns-9
-returns-9 c =
+unfolding byKind
+returns-9 c = c .map-site-item .ensures ∙ of-kind _ (c .before .before .before .before .if1 .left) 8 (c .before .match .keys7)
+
+returns-10 : tie.Need-returns-10
+returns-10 c =
     let m = c .before .match .rest in
     let four = c .before .before .if2 .left in
-    let u = unknown _ _ (m .0 .0 .0 .0 .0 .1) (m .0 .0 .0 .0 .1) (m .0 .0 .0 .1) four (m .0 .0 .1) (m .0 .1) (m .1) in
+    let u = unknown _ _ (m .0 .0 .0 .0 .0 .0 .1) (m .0 .0 .0 .0 .0 .1) (m .0 .0 .0 .0 .1) four (m .0 .0 .0 .1) (m .0 .0 .1) (m .0 .1) (m .1) in
     c .refused2 .ensures ∙ (u ∙ of-kind _ (c .before .before .before .before .if1 .left) _ refl)
 
 pub decode-spec : {M : Type 1} → statement M
@@ -88,6 +95,7 @@ decode-spec =
     cylindrical-item-requires
     abutting-item-requires
     projection-item-requires
+    map-site-item-requires
     refused-requires-2
     returns-3
     returns-4
@@ -95,4 +103,5 @@ decode-spec =
     returns-6
     returns-7
     returns-8
-    returns-9)
+    returns-9
+    returns-10)

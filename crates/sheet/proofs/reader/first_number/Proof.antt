@@ -20,13 +20,13 @@ returns c =
     let d = c .before .before .decode in
     c .misplaced-number .ensures ∙ (first-misplaced (d .result .item) (d .result .slopes) (c .before .match .keys2) .0 ∙ ap (ruleOf 0) (d .ensures))
 
-site-refusal-requires : tie.Need-site-refusal-requires
-site-refusal-requires c κs = search needs
+site-data-refusal-requires : tie.Need-site-data-refusal-requires
+site-data-refusal-requires c κs = search needs
 
 returns-2 : tie.Need-returns-2
 returns-2 c =
     let d = c .before .before .before .before .decode in
-    c .site-refusal .ensures
+    c .site-data-refusal .ensures
     ∙ (ap (λ (x : Item). ruleNumber 0 x (d .result .slopes)) (sym (c .before .before .item .given .1)) ∙ ap (ruleOf 0) (d .ensures))
 
 pub first-number-spec : {M : Type 1} → statement M
@@ -37,5 +37,5 @@ first-number-spec =
     enum-known-item
     misplaced-number-requires
     returns
-    site-refusal-requires
+    site-data-refusal-requires
     returns-2)

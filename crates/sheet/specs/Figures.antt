@@ -5,8 +5,9 @@ use Rattle.figures.specs.RoofRules.{noSlopes, roofOf}
 use Rattle.figures.specs.declared.site.Site.{Site}
 use Rattle.figures.specs.declared.roof.Shape.the-variants.{MultiSpan}
 use Rattle.figures.specs.declared.roof.Roof.{Roof}
+use Rattle.ground_loads.specs.Sites.{siteFrom}
 use Rattle.items.specs.declared.decoding.Item.{Item}
 use Rattle.items.specs.declared.decoding.Item.the-variants.{SiteItem, RoofItem, Malformed}
 
 -- a site and a roof of zeros, where there is none
 abbrev pub noSite : Site
@@ -15,14 +16,14 @@ noSite = record { sk = 0; ce = 0; ct = 0; cesl = 0; situation = 0; altitude = 0 
 abbrev pub noRoof : Roof
 noRoof = roofOf (MultiSpan 0) noSlopes
 
--- the site that an item says
+-- the site that an item says, from its ground load or from the map
 abbrev pub siteBy : Item → Site
-siteBy (SiteItem site) = site
+siteBy (SiteItem fields) = siteFrom fields
 siteBy (RoofItem shape) = noSite
 siteBy (Malformed number) = noSite
 
 -- the roof that an item says, with the slopes beside it
 abbrev pub roofBy : Item → List ℕ → Roof
-roofBy (SiteItem site) slopes = noRoof
+roofBy (SiteItem fields) slopes = noRoof
 roofBy (RoofItem shape) slopes = roofOf shape slopes
 roofBy (Malformed number) slopes = noRoof

@@ -1,0 +1,24 @@
+use mathlib.Core.Path.{ap, sym, _∙_}
+use Rattle.answer_codes.specs.Codes.{groundCode}
+use borrow.Author.Needs.{needs}
+use Rattle.answer_codes.proofs.ground.Statement.{statement}
+use Rattle.answer_codes.proofs.ground.Tie as tie
+
+enum-known-answer : tie.Need-enum-known-answer
+enum-known-answer c = search needs
+
+enum-known-answer-2 : tie.Need-enum-known-answer-2
+enum-known-answer-2 c = search needs
+
+refusal-requires : tie.Need-refusal-requires
+refusal-requires c κs = search needs
+
+returns : tie.Need-returns
+returns c = search needs
+
+returns-2 : tie.Need-returns-2
+returns-2 c = c .refusal .ensures ∙ ap groundCode (sym (c .before .before .answer2 .given .1))
+
+pub ground-spec : {M : Type 1} → statement M
+ground-spec =
+    tie.close (tie.spec enum-known-answer enum-known-answer-2 refusal-requires returns returns-2)

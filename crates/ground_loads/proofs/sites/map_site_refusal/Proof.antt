@@ -1,0 +1,28 @@
+use borrow.Author.Needs.{needs}
+use Rattle.ground_loads.proofs.sites.map_site_refusal.Statement.{statement}
+use Rattle.ground_loads.proofs.sites.map_site_refusal.Tie as tie
+
+other-fields-requires : tie.Need-other-fields-requires
+other-fields-requires c κs = search needs
+
+refused-if-requires : tie.Need-refused-if-requires
+refused-if-requires c κs = search needs
+
+map-refusal-requires : tie.Need-map-refusal-requires
+map-refusal-requires c κs = search needs
+
+first-requires : tie.Need-first-requires
+first-requires c κs = search needs
+
+returns : tie.Need-returns
+returns c = cc
+
+pub map-site-refusal-spec : {M : Type 1} → statement M
+map-site-refusal-spec =
+    tie.close
+    (tie.spec
+    other-fields-requires
+    refused-if-requires
+    map-refusal-requires
+    first-requires
+    returns)
