@@ -1,8 +1,10 @@
 // Reads stored cases: figures of document 01, figures outside their ranges, and many roofs. Runs each through the maker, the
-// reader and the local forces, holds every answer to the stored figure or to a second calculation, and writes what it counted.
+// reader and the local forces, asks for the ground load of every place of the map, holds every answer to the stored figure
+// or to a second calculation, and writes what it counted.
 mod arrangements;
 mod cases;
 mod forces;
+mod ground;
 mod lines;
 mod readings;
 mod refusals;
@@ -39,5 +41,7 @@ fn file(tally: Tally, i: usize) -> Tally {
 fn main() {
     let document = file(tally::nothing(), 1);
     let refusals = file(document, 2);
-    report::report(file(refusals, 3));
+    let mut tally = file(refusals, 3);
+    tally.ground = ground::places(tally.ground);
+    report::report(tally);
 }

@@ -3,7 +3,7 @@ use super::tally::DIFFERENT;
 use super::tally::Tally;
 use stored_lines::behind;
 
-fn counts_of(t: Tally) -> [u64; 17] {
+fn counts_of(t: Tally) -> [u64; 19] {
     let r = t.readings;
     [
         t.lines % DIFFERENT,
@@ -23,17 +23,19 @@ fn counts_of(t: Tally) -> [u64; 17] {
         r.worst as u64,
         t.forces % DIFFERENT,
         t.forces / DIFFERENT,
+        t.ground % DIFFERENT,
+        t.ground / DIFFERENT,
     ]
 }
 
 // The text, with the counts in turn for each #, the last of which ends it.
-fn filled(counts: [u64; 17], text: &[u8]) {
+fn filled(counts: [u64; 19], text: &[u8]) {
     let mut i = 0;
     let mut at = 0;
     while at < text.len() {
         let end = behind(text, at, b'#');
         io::write_all(libc::STDOUT_FILENO, &text[at..end - 1]);
-        io::print_decimal(libc::STDOUT_FILENO, counts[i % 17]);
+        io::print_decimal(libc::STDOUT_FILENO, counts[i % 19]);
         i += 1;
         at = end;
     }
@@ -44,6 +46,6 @@ fn filled(counts: [u64; 17], text: &[u8]) {
 pub fn report(tally: Tally) {
     filled(
         counts_of(tally),
-        b"LINES # UNREADABLE #\nFIGURES # DIFFERENT #\nARRANGEMENTS # SEGMENTS # DIFFERENT #\nREFUSALS # DIFFERENT #\nREADINGS # DIFFERENT # TOO LOW # TOO FAR # FALLING #\nWORST DISTANCE # THOUSANDTHS\nFORCES # DIFFERENT #",
+        b"LINES # UNREADABLE #\nFIGURES # DIFFERENT #\nARRANGEMENTS # SEGMENTS # DIFFERENT #\nREFUSALS # DIFFERENT #\nREADINGS # DIFFERENT # TOO LOW # TOO FAR # FALLING #\nWORST DISTANCE # THOUSANDTHS\nFORCES # DIFFERENT #\nGROUND LOADS # DIFFERENT #",
     );
 }

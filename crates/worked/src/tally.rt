@@ -18,6 +18,7 @@ pub struct Tally {
     pub refusals: u64,
     pub readings: Readings,
     pub forces: u64,
+    pub ground: u64,
 }
 
 // One answer that differs.
@@ -59,5 +60,6 @@ pub fn nothing() -> Tally {
         refusals: 0,
         readings: readings,
         forces: 0,
+        ground: 0,
     }
 }

@@ -15,7 +15,9 @@ first-requires : tie.Need-first-requires
 first-requires c κs = search needs
 
 returns : tie.Need-returns
-returns c = cc
+returns c = 
+    let a = c .before .before .before in
+    rw (c .first .ensures, c .before .map-refusal .ensures, c .before .before .refused-if .ensures, a .other-fields .ensures)
 
 pub map-site-refusal-spec : {M : Type 1} → statement M
 map-site-refusal-spec =
