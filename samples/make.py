@@ -66,6 +66,7 @@ SAW = (60.0, 25.0, 2_400, 7_600)
 
 SHEETS = {
     "scope": sheet(site(1_000, altitude=500), monopitch(30.0, 5_000, guard=1)),
+    "scope_map": sheet(map_site(1, 2, altitude=500), monopitch(30.0, 5_000, guard=1)),
     "site_alone": sheet(site(1_500)),
     # Kind 2
     "mono_flat": sheet(site(850, ce=80, altitude=240), monopitch(5.0, 6_400)),

@@ -67,7 +67,7 @@ impl Fuzz {
         }
     }
 
-    /// Every place of the map, and bytes of every value for the region and the zone.
+    /// Every place on the map, and bytes of every value for the region and the zone.
     pub fn sweep_map(&mut self) {
         for region in 1..=8 {
             for zone in 1..=5 {

@@ -1,6 +1,6 @@
 -- Loads of each region and refusals at their edges, worked by hand from Table C.1 and computed here from the definitions.
 use Prim.Native.Nat.{ℕ}
-use mathlib.Core.List.{List, [], _∷_}
+use mathlib.Core.List.{[], _∷_}
 use mathlib.Core.Path.{_≡_, refl}
 use Rattle.figures.specs.Rules.{firstOf}
 use Rattle.figures.specs.declared.site.Ground.the-variants.{OnMap}

@@ -1,12 +1,12 @@
--- What the tests on a place of the map make of the definitions, and that an item's site that breaks no rule is an accepted site.
+-- What the tests on a place on the map make of the definitions, and that an item's site that breaks no rule is an accepted site.
 use Prim.Native.Nat.{ℕ, _≤_}
 use mathlib.Core.Bool.{true, false, not}
-use mathlib.Core.Path.{_≡_, refl, _∙_}
+use mathlib.Core.Path.{_≡_}
 use borrow.Author.Tests.{eq-eqb, ne-eqb, ltb-false}
 use lib.Dec.{ltb}
 use native.Mathlib.Omega.{arith}
 use Rattle.figures.proofs.Accepted.{range, sound}
-use Rattle.figures.proofs.Laws.{both, within-in, first-kept, first-broken, none-broken, kept}
+use Rattle.figures.proofs.Laws.{both, within-in, first-broken, none-broken, kept}
 use Rattle.figures.specs.Ranges.{within}
 use Rattle.figures.specs.Rules.{refusedIf, firstOf}
 use Rattle.figures.specs.SiteRules.{groundField, otherFields, altitudeRefusal, siteRefusal}
@@ -42,7 +42,7 @@ module _ (region zone altitude : ℕ) where
         altitude = ltb-false 1500 altitude (kept (ltb 1500 altitude) 7 (omega arith) h);
       }
 
-  -- a place of the map that breaks no rule: the table has it, and its load lies in its range
+  -- a place on the map that breaks no rule: the table has it, and its load lies in its range
   pub map-kept :
       mapRefusal region zone altitude ≡ 0
       → MapIn region zone altitude × (groundField (groundLoad region zone altitude) ≡ true) × (altitudeRefusal altitude ≡ 0)
@@ -86,10 +86,7 @@ module _ (d : SiteData) where
   unfolding siteDataRefusal
   site-accepted e = site-by (d .ground) e
 
-  -- and so is the kind 1 site with its load, which is the same site
+  -- and the kind 1 site with its load, which is the same site, breaks none either
   pub given-kept : siteDataRefusal d ≡ 0 → siteDataRefusal (asGiven d) ≡ 0
   unfolding siteDataRefusal
   given-kept e = site-by (d .ground) e
-
-  pub given-same : siteFrom d ≡ siteFrom (asGiven d)
-  given-same = refl

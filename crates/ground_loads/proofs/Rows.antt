@@ -1,21 +1,21 @@
--- Table C.1: every row is in its bounds, its load is the least whole number not below its expression, and never falls as the
+-- Table C.1: every row is in its bounds, its load is the smallest whole number not below its expression, and never falls as the
 -- altitude rises.
 use Prim.Native.Nat.{ℕ, zero, suc, _+_, _-_, _*_, _≤_, _<_}
 use mathlib.Core.Bool.{Bool, true, _&&_}
 use mathlib.Core.List.{List, [], _∷_}
-use mathlib.Core.Path.{_≡_, refl, sym, ap}
+use mathlib.Core.Path.{_≡_, refl, sym}
 use borrow.Author.Tests.{leb-true}
 use lib.Dec.{leb}
 use lib.ListN.{length, getD}
-use native.Mathlib.Nat.{mul-le-mul, mul-le-mul-left, mul-le-mul-right, mul-pos, one-mul, le-of-suc-le-suc, not-suc-le-zero}
+use native.Mathlib.Nat.{mul-le-mul, mul-le-mul-left, mul-le-mul-right, mul-pos, le-of-suc-le-suc, not-suc-le-zero}
 use native.Mathlib.Omega.{arith}
 use Rattle.figures.proofs.Accepted.{range}
 use Rattle.figures.proofs.Laws.{both}
 use Rattle.figures.specs.Bounds.{Within}
 use Rattle.figures.specs.Ranges.{within}
-use Rattle.rounding.specs.Fraction.{Fraction, over, AtMost, Below}
-use Rattle.rounding.specs.Up.{ceilDiv, roundedUp}
-use Rattle.rounding.proofs.Rounding.{up-close, up-least, up-mono}
+use Rattle.rounding.specs.Fraction.{Below}
+use Rattle.rounding.specs.Up.{roundedUp, Smallest}
+use Rattle.rounding.proofs.Rounding.{up-smallest, up-mono}
 use Rattle.ground_loads.specs.Map.{RowIn, row, rows, rowOf, zoneLoad, byForm, expression, groundLoad}
 use Rattle.ground_loads.specs.declared.table.Form.{Form}
 use Rattle.ground_loads.specs.declared.table.Form.the-variants.{Square, Linear}
@@ -56,28 +56,9 @@ positive : (f : Form) (base divisor altitude : ℕ) → 1 ≤ divisor → 0 < by
 positive Square base divisor altitude h = mul-pos h h
 positive Linear base divisor altitude h = h
 
--- a load that is rounded up in code, and the size of the squares in it
-pub rounded : (n d : ℕ) → ceilDiv n d ≡ roundedUp 1 (over n d)
-unfolding roundedUp
-rounded n d = ap (λ (x : ℕ). ceilDiv x d) (sym (one-mul n))
-
+-- the size of the squares in a load
 pub squares : {d a : ℕ} → d ≤ 1000 → a ≤ 1500 → d * d + a * a ≤ 3250000
 squares h k = omega (arith, mul-le-mul h h, mul-le-mul k k)
-
--- r is the least whole number not below f
-pub record Least (f : Fraction) (r : ℕ) : Type 0 where
-  pub positive : 0 < f .den
-  pub reaches : AtMost f r
-  pub least : (n : ℕ) → AtMost f n → r ≤ n
-
-up : (f : Fraction) → 0 < f .den → Least f (roundedUp 1 f)
-unfolding AtMost
-up f h =
-    record {
-      positive = h;
-      reaches = omega (arith, up-close 1 f h .low);
-      least = λ n a. up-least 1 n f h (omega arith);
-    }
 
 module _ (region zone : ℕ) (h : Within 1 8 region) where
   -- nothing is lost where a coefficient is taken off: the zone's load is factor × zone + plus − minus
@@ -85,10 +66,12 @@ module _ (region zone : ℕ) (h : Within 1 8 region) where
   unfolding zoneLoad
   zone-whole k = let b = row-in region h in omega (arith, mul-le-mul-left (rowOf region .factor) k, b .minus)
 
-  -- the load is the least whole number not below the row's expression
-  pub load-least : (altitude : ℕ) → Least (expression (rowOf region) zone altitude) (groundLoad region zone altitude)
+  -- the load is the smallest whole number not below the row's expression
+  pub load-smallest : (altitude : ℕ) → Smallest (expression (rowOf region) zone altitude) (groundLoad region zone altitude)
   unfolding groundLoad expression
-  load-least altitude = up _ (positive (rowOf region .form) (zoneLoad (rowOf region) zone) (rowOf region .divisor) altitude (row-in region h .divisor .low))
+  load-smallest altitude =
+      let r = rowOf region in
+      up-smallest _ (positive (r .form) (zoneLoad r zone) (r .divisor) altitude (row-in region h .divisor .low))
 
 rises : (f : Form) (base divisor a b : ℕ) → a ≤ b → Below (byForm f base divisor a) (byForm f base divisor b)
 unfolding Below

@@ -33,15 +33,15 @@ rows =
     ∷ row 140 0 100 501 Linear
     ∷ []
 
--- the row of a region, from 1, and a row of zeros for a number that is no region
+-- the row of a region, counted from 1; any other number is refused before its row is asked for
 unfoldable pub rowOf : ℕ → Row
 rowOf region = getD rows (region - 1) (row 0 0 0 0 Square)
 
--- what the zone gives, at altitude 0
+-- the load of the zone at altitude 0
 unfoldable pub zoneLoad : Row → ℕ → ℕ
 zoneLoad r zone = r .factor * zone + r .plus - r .minus
 
--- base × (1 + (A/divisor)²), or base + A/divisor with A/divisor in kN/m²
+-- base × (1 + (A/divisor)²), or base and A/divisor in kN/m², which is 1,000 × A/divisor in N/m²
 abbrev pub byForm : Form → ℕ → ℕ → ℕ → Fraction
 byForm Square base divisor altitude = over (base * (divisor * divisor + altitude * altitude)) (divisor * divisor)
 byForm Linear base divisor altitude = over (base * divisor + 1000 * altitude) divisor
@@ -61,7 +61,7 @@ pub record RowIn (r : Row) : Type 0 where
   pub minus : r .minus ≤ r .factor
   pub divisor : Within 1 1000 (r .divisor)
 
--- a place of the map whose load the table has
+-- a place on the map whose load the table has
 pub record MapIn (r z a : ℕ) : Type 0 where
   pub region : Within 1 8 r
   pub zone : Within 1 5 z

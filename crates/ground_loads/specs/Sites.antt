@@ -1,4 +1,4 @@
--- The value rules on a place of the map and on an item's site, and the site that it is: refusals 6, 7, 14 and 15.
+-- The value rules on a place on the map and on an item's site, and the site that it is: refusals 6, 7, 14 and 15.
 use Prim.Native.Nat.{ℕ}
 use mathlib.Core.Bool.{Bool, not, cond, _&&_}
 use lib.Dec.{eqb}

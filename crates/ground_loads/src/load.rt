@@ -10,7 +10,7 @@ use crate::table::Row;
 use crate::table::row_of;
 use rounding::ceil_div;
 
-// What the zone gives, at altitude 0.
+// The load of the zone at altitude 0.
 fn zone_load(row: Row, zone: u64) -> u64
     requires { ⌜ RowIn row × Within 1 5 zone ⌝ }
     ensures { λ r. ⌜ (r ≡ zoneLoad row zone) × (r ≤ 6000) ⌝ }

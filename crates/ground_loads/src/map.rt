@@ -1,4 +1,4 @@
-// A place of the map: its ground load, or the first rule that it breaks.
+// A place on the map: its ground load, or the first rule that it breaks.
 ghost use mathlib.Core.Path.{_≡_};
 ghost use Rattle.ground_loads.specs.Map.{groundLoad};
 ghost use Rattle.ground_loads.specs.Sites.{mapFields, mapRefusal, groundAnswer};
@@ -7,7 +7,7 @@ use figures::refused_if;
 use site_rules::altitude_refusal;
 use site_rules::ground_field;
 
-// Refusals of a place of the map, by document 02's numbers.
+// Refusals of a place on the map, by document 02's numbers.
 const REGION_OR_ZONE: u8 = 14;
 
 const MAP_LOAD: u8 = 15;
@@ -25,7 +25,7 @@ fn map_fields(region: u8, zone: u8) -> bool
     ((1 <= region) & (region <= 8)) & ((1 <= zone) & (zone <= 5))
 }
 
-// The number of the first rule that a place of the map breaks, 0 where it breaks none.
+// The number of the first rule that a place on the map breaks, 0 where it breaks none.
 pub fn map_refusal(region: u8, zone: u8, altitude: u16) -> u8
     ensures { λ r. ⌜ r ≡ mapRefusal region zone altitude ⌝ }
 {
@@ -39,7 +39,7 @@ pub fn map_refusal(region: u8, zone: u8, altitude: u16) -> u8
     refused_if(!ground_field(table_load(region, zone, altitude)), MAP_LOAD)
 }
 
-// The ground load of a place of the map that breaks no rule.
+// The ground load of a place on the map that breaks no rule.
 pub fn sk_on_map(region: u8, zone: u8, altitude: u16) -> u32
     requires { ⌜ mapRefusal region zone altitude ≡ 0 ⌝ }
     ensures { λ r. ⌜ r ≡ groundLoad region zone altitude ⌝ }

@@ -1,5 +1,5 @@
-// The site that an item's data are: a site on the map has the ground load of its place, and from here on no call knows
-// which kind it was.
+// The site that an item's data are: a map site has the ground load of its place, and from here on no call knows which kind it
+// was.
 ghost use mathlib.Core.Path.{_≡_};
 ghost use Rattle.figures.specs.SiteRules.{siteRefusal};
 ghost use Rattle.ground_loads.specs.Sites.{skOf, siteWith, siteFrom, refusalBy, siteDataRefusal};
@@ -29,7 +29,7 @@ fn site_with(sk: u32, fields: SiteData) -> Site
     }
 }
 
-// The number of the first value rule that a site on the map breaks, 0 where it breaks none.
+// The number of the first value rule that a map site breaks, 0 where it breaks none.
 fn map_site_refusal(region: u8, zone: u8, fields: SiteData) -> u8
     ensures { λ r. ⌜ r ≡ refusalBy (OnMap region zone) fields ⌝ }
 {

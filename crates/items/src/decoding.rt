@@ -73,7 +73,7 @@ fn site_item(p: &[u8]) -> Decoded
     alone(Item::SiteItem(site_data_at(p, 5, ground)))
 }
 
-// A site on the map.
+// A map site: its region and its zone stand in place of sk.
 fn map_site_item(p: &[u8]) -> Decoded
     ensures { λ r. ⌜ r ≡ mapSiteItem (now (p .entry)) ⌝ }
 {

@@ -1,23 +1,26 @@
--- The example of document 01, and the same roof at a site on the map, computed from the definitions.
-use Prim.Native.Nat.{ℕ}
+-- The example of document 01, and the same roof at a map site, computed from the definitions.
+use Prim.Native.Nat.{ℕ, zero, suc, _<_}
 use mathlib.Core.List.{List, [], _∷_}
 use mathlib.Core.Path.{_≡_, refl}
+use native.Mathlib.Omega.{arith}
 use Rattle.figures.specs.RoofRules.{shapeRefusal}
 use Rattle.figures.specs.Rules.{firstOf}
 use Rattle.figures.specs.SiteRules.{siteRefusal}
 use Rattle.force_rows.specs.Rows.{slopeRows, forceRows}
 use Rattle.roof_rows.specs.Rows.{segmentRows, codeRows, codesRows, arrangementRows}
 use Rattle.roof_rows.specs.Rows.{roofRows}
-use Rattle.ground_loads.specs.Sites.{siteDataRefusal}
+use Rattle.ground_loads.specs.Map.{rows, rowOf, zoneLoad, expression, groundLoad}
+use Rattle.ground_loads.specs.Sites.{mapRefusal, siteDataRefusal}
 use Rattle.listing.specs.Listing.{itemRows, itemsRows, listingBy, listing}
 use Rattle.rounding.specs.Limit.{larger}
 use Rattle.rounding.specs.Load.{breakLoad}
 use Rattle.rounding.specs.Ramp.{reading}
 use Rattle.rounding.specs.Up.{ceilDiv, roundedUp}
-use Rattle.items.specs.Items.{sized, siteItem, monopitchItem, byKind, content}
+use Rattle.items.specs.Items.{sized, siteItem, mapSiteItem, monopitchItem, byKind, content}
 use Rattle.sheet_figures.specs.Find.{sheetSite, sheetRoof}
+use Rattle.sheet_figures.specs.MapSites.{givenItem, GivenLoad}
 use Rattle.pairs.specs.Pairs.{pairNumber, inTurn, pairsVerdict}
-use Rattle.sheet.specs.Sheet.{itemNumber, sheetVerdict}
+use Rattle.sheet.specs.Sheet.{part, itemNumber, sheetVerdict}
 use Rattle.standard.specs.Arrangements.{factorOf, countIn, stretchIn, exists, count, stretch}
 use Rattle.standard.specs.Codes.{existsIn}
 use Rattle.standard.specs.Coefficients.{mu1, guarded}
@@ -42,12 +45,53 @@ text =
     49 ∷ 32 ∷ 49 ∷ 32 ∷ 48 ∷ 32 ∷ 50 ∷ 48 ∷ 48 ∷ 48 ∷ 48 ∷ 32 ∷ 56 ∷ 48 ∷ 48 ∷ 32 ∷ 56 ∷ 48 ∷ 48 ∷ 10 ∷
     49 ∷ 32 ∷ 50 ∷ 50 ∷ 32 ∷ 49 ∷ 32 ∷ 50 ∷ 48 ∷ 48 ∷ 48 ∷ 10 ∷ []
 
-pub example : listing sheet ≡ text
+-- the same with a map site, Alpine Region, zone 2, in place of sk: 02 00 0A 00 0C 00 ..
+abbrev mapSheet : List ℕ
+mapSheet =
+    2 ∷ 0 ∷ 10 ∷ 0 ∷ 12 ∷ 0 ∷ 22 ∷ 0 ∷ 8 ∷ 0 ∷
+    8 ∷ 1 ∷ 2 ∷ 100 ∷ 0 ∷ 100 ∷ 0 ∷ 200 ∷ 0 ∷ 0 ∷ 244 ∷ 1 ∷
+    2 ∷ 44 ∷ 1 ∷ 1 ∷ 136 ∷ 19 ∷ 0 ∷ 0 ∷ []
+
+-- ITEM ARR START END LOAD LOAD, 1 1 0 20000 1523 1523, 1 22 1 3808
+abbrev mapText : List ℕ
+mapText =
+    73 ∷ 84 ∷ 69 ∷ 77 ∷ 32 ∷ 65 ∷ 82 ∷ 82 ∷ 32 ∷ 83 ∷ 84 ∷ 65 ∷ 82 ∷ 84 ∷ 32 ∷
+    69 ∷ 78 ∷ 68 ∷ 32 ∷ 76 ∷ 79 ∷ 65 ∷ 68 ∷ 32 ∷ 76 ∷ 79 ∷ 65 ∷ 68 ∷ 10 ∷
+    49 ∷ 32 ∷ 49 ∷ 32 ∷ 48 ∷ 32 ∷ 50 ∷ 48 ∷ 48 ∷ 48 ∷ 48 ∷ 32 ∷ 49 ∷ 53 ∷ 50 ∷ 51 ∷ 32 ∷ 49 ∷ 53 ∷ 50 ∷ 51 ∷ 10 ∷
+    49 ∷ 32 ∷ 50 ∷ 50 ∷ 32 ∷ 49 ∷ 32 ∷ 51 ∷ 56 ∷ 48 ∷ 56 ∷ 10 ∷ []
+
+pub example : (listing sheet ≡ text) × (listing mapSheet ≡ mapText)
 unfolding listing listingBy itemsRows itemRows roofRows arrangementRows codesRows codeRows segmentRows forceRows slopeRows sheetSite sheetRoof
-    sheetVerdict pairsVerdict inTurn pairNumber itemNumber content byKind siteItem monopitchItem sized
-    siteDataRefusal siteRefusal shapeRefusal firstOf
+    sheetVerdict pairsVerdict inTurn pairNumber itemNumber content byKind siteItem mapSiteItem monopitchItem sized
+    siteDataRefusal mapRefusal groundLoad expression zoneLoad rowOf rows siteRefusal shapeRefusal firstOf
     exists existsIn count countIn stretch stretchIn factorOf monopitch
     mu1 guarded segment startOf readIn load reading breakLoad roundedUp ceilDiv larger
     slopeAt slopeLoad wholeLoad overhangAt guardAt guardForce guardRule sineEntry sineReference
     decimal
-example = refl
+example = (refl, refl)
+
+-- the same with the kind 1 site of that load, 1,903, which stands beside it as the theorem on map sites asks
+abbrev givenSheet : List ℕ
+givenSheet =
+    2 ∷ 0 ∷ 10 ∷ 0 ∷ 14 ∷ 0 ∷ 24 ∷ 0 ∷ 8 ∷ 0 ∷
+    1 ∷ 111 ∷ 7 ∷ 0 ∷ 0 ∷ 100 ∷ 0 ∷ 100 ∷ 0 ∷ 200 ∷ 0 ∷ 0 ∷ 244 ∷ 1 ∷
+    2 ∷ 44 ∷ 1 ∷ 1 ∷ 136 ∷ 19 ∷ 0 ∷ 0 ∷ []
+
+other : (i : ℕ) → 0 < i → i < 2 → part mapSheet i ≡ part givenSheet i
+other zero a b = absurd (omega arith)
+other (suc zero) a b = refl
+other (suc (suc i)) a b = absurd (omega arith)
+
+pub beside : GivenLoad mapSheet givenSheet 2
+unfolding pairsVerdict inTurn pairNumber itemNumber content byKind mapSiteItem sized siteDataRefusal mapRefusal groundLoad expression zoneLoad rowOf rows
+    firstOf roundedUp ceilDiv sheetSite givenItem
+beside =
+    record {
+      pairs = refl;
+      given-pairs = refl;
+      bytes = refl;
+      kind = refl;
+      sound = refl;
+      given = refl;
+      others = other;
+    }

@@ -1,23 +1,18 @@
 -- A part that code rounds up over one denominator is the part of the definition; a break load adds them.
 use Prim.Native.Nat.{ℕ, _+_, _*_, _≤_, _<_}
-use mathlib.Core.Path.{_≡_, sym, ap, _∙_}
+use mathlib.Core.Path.{_≡_, sym, _∙_}
 use mathlib.Core.Bool.{true}
 use native.Mathlib.Omega.{arith}
 use Rattle.rounding.specs.Fraction.{Fraction, over, Same}
 use Rattle.rounding.specs.Load.{alone, breakLoad}
 use Rattle.rounding.specs.Up.{ceilDiv, roundedUp}
 use Rattle.rounding.proofs.Ramps.{break-alone}
-use Rattle.rounding.proofs.Rounding.{up-same}
+use Rattle.rounding.proofs.Rounding.{up-same, up-whole}
 use Rattle.standard.specs.Pitched.{halved}
 use Rattle.standard.specs.Stretch.{load, loadAlone}
 use Rattle.standard.specs.Units.{largestPart}
 use Rattle.standard.proofs.Loads.{load-positive}
 use Rattle.standard.proofs.Numerators.{load-same, load-without}
-
--- in whole N/m²
-up-whole : (n d : ℕ) → ceilDiv n d ≡ roundedUp 1 (over n d)
-unfolding roundedUp
-up-whole n d = ap (λ (z : ℕ). ceilDiv z d) (omega arith)
 
 -- a shape coefficient as code has it, m over d
 pub record Coefficient (mu : Fraction) (m d : ℕ) : Type 0 where

@@ -1,10 +1,10 @@
 -- What rounding up gives: the least whole number not below the exact value, which keeps the order of what is rounded.
-use mathlib.Core.Path.{_≡_, sym}
+use mathlib.Core.Path.{_≡_, sym, ap}
 use Prim.Native.Nat.{ℕ, _+_, _-_, _*_, _≤_, _<_}
 use native.Mathlib.Nat.{div-zero, div-mul-le-self, lt-div-mul-add, le-of-mul-le-mul-right, lt-of-mul-lt-mul-right, mul-le-mul-left, mul-le-mul-right}
 use native.Mathlib.Omega.{arith}
-use Rattle.rounding.specs.Fraction.{Fraction, over, Below, Same, Close}
-use Rattle.rounding.specs.Up.{ceilDiv, roundedUp}
+use Rattle.rounding.specs.Fraction.{Fraction, over, AtMost, Below, Same, Close}
+use Rattle.rounding.specs.Up.{ceilDiv, roundedUp, Smallest}
 
 -- These two say all that the laws below need of `ceilDiv`: it reaches the quotient, and is less than 1 above it.
 pub reaches : (n d : ℕ) → 0 < d → n ≤ ceilDiv n d * d
@@ -60,6 +60,20 @@ up-least g r f h p = least (g * f .num) (f .den) r h p
 pub up-mono : (g : ℕ) (e f : Fraction) → 0 < e .den → 0 < f .den → Below e f → roundedUp g e ≤ roundedUp g f
 unfolding roundedUp Below
 up-mono g e f he hf p = cross (g * e .num) (e .den) (g * f .num) (f .den) he hf (omega (arith, mul-le-mul-left g p))
+
+-- In ones, what is rounded up is the smallest whole number not below the fraction, as `ceilDiv` gives it.
+pub up-smallest : (f : Fraction) → 0 < f .den → Smallest f (roundedUp 1 f)
+unfolding AtMost
+up-smallest f h =
+    record {
+      positive = h;
+      reaches = omega (arith, up-close 1 f h .low);
+      least = λ n a. up-least 1 n f h (omega arith);
+    }
+
+pub up-whole : (n d : ℕ) → ceilDiv n d ≡ roundedUp 1 (over n d)
+unfolding roundedUp
+up-whole n d = ap (λ (z : ℕ). ceilDiv z d) (omega arith)
 
 -- 0 is rounded up to 0.
 pub up-nothing : (g : ℕ) → roundedUp g (over 0 1) ≡ 0

@@ -1,23 +1,26 @@
--- A sheet with a site on the map is read as the sheet with the kind 1 site of its load: the verdict, the site and the roofs.
-use Prim.Native.Nat.{ℕ, zero, suc, _+_, _≤_, _<_}
+-- A sheet with a map site is read as the sheet with the kind 1 site of its load: the verdict, the site and the roofs.
+use Prim.Native.Nat.{ℕ, zero, suc, _+_, _*_, _/_, _%_, _≤_, _<_}
 use mathlib.Core.Bool.{Bool, true, false, cond}
 use mathlib.Core.List.{List}
 use mathlib.Core.Path.{_≡_, refl, sym, ap, _∙_}
 use borrow.Author.Tests.{ltb-true}
 use lib.Dec.{ltb}
+use lib.ListN.{length}
 use native.Mathlib.Omega.{arith}
+use Rattle.figures.specs.declared.site.Ground.the-variants.{OnMap}
 use Rattle.figures.specs.declared.site.SiteData.{SiteData}
 use Rattle.ground_loads.proofs.Kept.{given-kept}
-use Rattle.ground_loads.specs.Sites.{siteDataRefusal}
-use Rattle.items.specs.Items.{content}
+use Rattle.ground_loads.specs.Sites.{skOf, asGiven, siteDataRefusal}
+use Rattle.items.specs.Items.{sized, siteDataAt, siteItem, mapSiteItem, byKind, content}
 use Rattle.items.specs.declared.decoding.Item.{Item}
 use Rattle.items.specs.declared.decoding.Item.the-variants.{SiteItem}
+use Rattle.little_endian.specs.Numbers.{byteAt}
 use Rattle.pairs.specs.Pairs.{Answer, accepted, refused, terminals, offset, size, inTurn}
 use Rattle.sheet.proofs.Kept.{pairs-kept, sheet-kept, sheet-items}
 use Rattle.sheet.specs.Figures.{siteBy}
 use Rattle.sheet.specs.Sheet.{part, ruleNumber, itemNumber, sheetVerdict, placeBy, place}
 use Rattle.sheet_figures.specs.Find.{sheetSite, sheetRoof, foundIn, foundBy, found}
-use Rattle.sheet_figures.specs.MapSites.{GivenLoad}
+use Rattle.sheet_figures.specs.MapSites.{givenItem, GivenLoad}
 
 -- a walk asks only for the numbers that it passes
 same-walk :
@@ -28,14 +31,43 @@ same-walk f g m i (suc k) h =
     let next = same-walk f g m (suc i) k (λ j a b. h j (omega arith) (omega arith)) in
     rw (h i (omega arith) (omega arith), next)
 
-module _ (s t : List ℕ) (n : ℕ) (d : SiteData) (g : GivenLoad s t n d) where
-  first-kept : (p : List ℕ) (e : SiteData) → content p .item ≡ SiteItem e → siteDataRefusal e ≡ 0 → ruleNumber 0 (content p .item) (content p .slopes) ≡ 0
-  first-kept p e told h = ap (λ (x : Item). ruleNumber 0 x (content p .slopes)) told ∙ h
+-- what the bytes of a map site say, and those of the kind 1 item with its load
+module _ (p : List ℕ) where
+  abbrev onMap : SiteData
+  onMap = siteDataAt p 3 (OnMap (byteAt p 1) (byteAt p 2))
+
+  map-item : length p ≡ 12 → byteAt p 0 ≡ 8 → content p .item ≡ SiteItem onMap
+  unfolding content byKind mapSiteItem sized
+  map-item l k = rw (l, k)
+
+  given-item : (q : List ℕ) (sk : ℕ) → q ≡ givenItem sk p → sk ≡ skOf (onMap .ground) (onMap .altitude) → content q .item ≡ SiteItem (asGiven onMap)
+  unfolding content byKind siteItem sized givenItem
+  given-item q sk e h =
+      let whole : sk % 256 + 256 * (sk / 256) + 65536 * 0 + 16777216 * 0 ≡ skOf (onMap .ground) (onMap .altitude) = omega arith in
+      rw (e, whole)
+
+module _ (s t : List ℕ) (n : ℕ) (g : GivenLoad s t n) where
+  abbrev d : SiteData
+  d = onMap (part s 0)
+
+  site : content (part s 0) .item ≡ SiteItem d
+  site = map-item (part s 0) (g .bytes) (g .kind)
+
+  its-load : sheetSite s .sk ≡ skOf (d .ground) (d .altitude)
+  unfolding sheetSite
+  its-load = ap (λ (x : Item). siteBy x .sk) site
+
+  given-site : content (part t 0) .item ≡ SiteItem (asGiven d)
+  given-site = given-item (part s 0) (part t 0) (sheetSite s .sk) (g .given) its-load
+
+  kept : siteDataRefusal d ≡ 0
+  unfolding itemNumber
+  kept = sym (ap (λ (x : Item). ruleNumber 0 x (content (part s 0) .slopes)) site) ∙ g .sound
 
   same-number : (i : ℕ) → 0 ≤ i → i < 0 + n → itemNumber s i ≡ itemNumber t i
   unfolding itemNumber
   same-number zero a b =
-      first-kept (part s 0) d (g .site) (g .kept) ∙ sym (first-kept (part t 0) _ (g .given-site) (given-kept d (g .kept)))
+      g .sound ∙ sym (ap (λ (x : Item). ruleNumber 0 x (content (part t 0) .slopes)) given-site ∙ given-kept d kept)
   same-number (suc i) a b = rw (g .others (suc i) (omega arith) (omega arith))
 
   pub same-verdict : sheetVerdict terminals s ≡ sheetVerdict terminals t
@@ -45,7 +77,7 @@ module _ (s t : List ℕ) (n : ℕ) (d : SiteData) (g : GivenLoad s t n d) where
 
   pub same-site : sheetSite s ≡ sheetSite t
   unfolding sheetSite
-  same-site = ap siteBy (g .site) ∙ sym (ap siteBy (g .given-site))
+  same-site = ap siteBy site ∙ sym (ap siteBy given-site)
 
   pub same-roof : (i : ℕ) → 0 < i → i < n → sheetRoof s i ≡ sheetRoof t i
   unfolding sheetRoof

@@ -1,19 +1,26 @@
--- A sheet with a site on the map beside the sheet with the kind 1 site of its load.
-use Prim.Native.Nat.{ℕ, _<_}
-use mathlib.Core.List.{List}
+-- A sheet with a map site beside the sheet with the kind 1 site of its load.
+use Prim.Native.Nat.{ℕ, _/_, _%_, _<_}
+use mathlib.Core.List.{List, [], _∷_}
 use mathlib.Core.Path.{_≡_}
-use Rattle.figures.specs.declared.site.SiteData.{SiteData}
-use Rattle.ground_loads.specs.Sites.{asGiven, siteDataRefusal}
-use Rattle.items.specs.Items.{content}
-use Rattle.items.specs.declared.decoding.Item.the-variants.{SiteItem}
+use lib.ListN.{length}
+use Rattle.little_endian.specs.Numbers.{byteAt}
 use Rattle.pairs.specs.Pairs.{accepted, terminals, pairsVerdict}
-use Rattle.sheet.specs.Sheet.{part}
+use Rattle.sheet.specs.Sheet.{part, itemNumber}
+use Rattle.sheet_figures.specs.Find.{sheetSite}
 
--- s and t have n items each, t first the kind 1 site of the load that s has there, and the items behind it are equal
-pub record GivenLoad (s t : List ℕ) (n : ℕ) (d : SiteData) : Type 0 where
+-- "the kind 1 site with it": the bytes of the kind 1 item with a ground load below 65,536 and a kind 8 item's fields from Ce on
+unfoldable pub givenItem : ℕ → List ℕ → List ℕ
+givenItem sk p =
+    1 ∷ sk % 256 ∷ sk / 256 ∷ 0 ∷ 0 ∷
+    byteAt p 3 ∷ byteAt p 4 ∷ byteAt p 5 ∷ byteAt p 6 ∷ byteAt p 7 ∷ byteAt p 8 ∷ byteAt p 9 ∷ byteAt p 10 ∷ byteAt p 11 ∷ []
+
+-- s and t have n items each, at sound pairs; the first of s is a map site that breaks no rule, that of t the kind 1 site with
+-- its load, and behind it the items are equal
+pub record GivenLoad (s t : List ℕ) (n : ℕ) : Type 0 where
   pub pairs : pairsVerdict terminals s ≡ accepted n
   pub given-pairs : pairsVerdict terminals t ≡ accepted n
-  pub site : content (part s 0) .item ≡ SiteItem d
-  pub given-site : content (part t 0) .item ≡ SiteItem (asGiven d)
-  pub kept : siteDataRefusal d ≡ 0
+  pub bytes : length (part s 0) ≡ 12
+  pub kind : byteAt (part s 0) 0 ≡ 8
+  pub sound : itemNumber s 0 ≡ 0
+  pub given : part t 0 ≡ givenItem (sheetSite s .sk) (part s 0)
   pub others : (i : ℕ) → 0 < i → i < n → part s i ≡ part t i

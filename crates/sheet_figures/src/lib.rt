@@ -55,7 +55,7 @@ fn no_roof() -> Roof
     }
 }
 
-// The site that a first item says that is sound: a site on the map has its ground load from there.
+// The site that a first item says that is sound: a map site has its ground load from there.
 fn site_of(decoded: Decoded) -> Site
     requires { ⌜ ruleOf 0 decoded ≡ 0 ⌝ }
     ensures { λ r. ⌜ r ≡ siteBy (decoded .item) ⌝ }

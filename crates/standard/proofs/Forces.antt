@@ -1,12 +1,12 @@
 -- What is owed on the local forces: their distance from the rules over the unrounded S and the sine's reference.
 use Prim.Native.Nat.{ℕ, _+_, _-_, _*_, _≤_, _<_, min}
-use mathlib.Core.Path.{_≡_, refl, sym, ap, subst}
+use mathlib.Core.Path.{_≡_, refl, sym, subst}
 use mathlib.Core.Bool.{Bool, true, false, cond}
 use mathlib.Core.List.{List}
 use borrow.Author.Tests.{eqb-true}
 use lib.Dec.{ltb, eqb}
 use native.Mathlib.Decide.{decLe}
-use native.Mathlib.Nat.{add-sub-of-le, one-mul, mul-pos, le-of-lt, min-eq-left, min-eq-right}
+use native.Mathlib.Nat.{add-sub-of-le, mul-pos, le-of-lt, min-eq-left, min-eq-right}
 use native.Mathlib.Nat.{mul-le-mul, mul-le-mul-left, mul-le-mul-right, mul-lt-mul-of-pos-right, le-of-mul-le-mul-right}
 use native.Mathlib.Omega.{arith}
 use Rattle.figures.specs.Bounds.{SiteIn, SlopeIn, ShapeIn}
@@ -23,7 +23,7 @@ use Rattle.figures.proofs.Laws.{none-broken}
 use Rattle.rounding.specs.Fraction.{Fraction, over, sum, AtMost, Under, Below, Same, Close}
 use Rattle.rounding.specs.Load.{alone, exact, breakLoad}
 use Rattle.rounding.specs.Up.{ceilDiv, roundedUp}
-use Rattle.rounding.proofs.Rounding.{reaches, near, least, whole, up-close, up-least}
+use Rattle.rounding.proofs.Rounding.{reaches, near, least, whole, up-close, up-least, up-whole}
 use Rattle.rounding.proofs.Ramps.{close-whole, break-alone}
 use Rattle.rounding.proofs.Limited.{smaller-is, smaller-mono, smaller-positive}
 use Rattle.standard.specs.Arrangements.{factorOf}
@@ -250,8 +250,8 @@ module _ (n d s w e N D r : ℕ) (hd : 0 < d) (hD : 0 < D) (hs : s ≤ 24000) (h
 
 module _ (s width pitch : ℕ) where
   pub guard-is : guardForce s width pitch ≡ ceilDiv (s * width * sineEntry pitch) 1000000000
-  unfolding guardForce guardRule roundedUp
-  guard-is = ap (λ (n : ℕ). ceilDiv n 1000000000) (one-mul (s * width * sineEntry pitch))
+  unfolding guardForce guardRule
+  guard-is = sym (up-whole (s * width * sineEntry pitch) 1000000000)
 
   module _ (hs : s ≤ 24000) (hw : width ≤ 100000) (hp : pitch ≤ 800) where
     pub guard-most : guardForce s width pitch ≤ 2400000

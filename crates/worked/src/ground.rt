@@ -1,4 +1,4 @@
-// The ground load of every place of the map, and of places beside it, against the second calculation.
+// The ground load of every place on the map, and of places beside it, against the second calculation.
 use super::readings::REFUSED;
 use super::tally::compared;
 use ground_loads::GroundLoad;
@@ -12,7 +12,7 @@ fn newtons(answer: GroundLoad) -> u32 {
     }
 }
 
-// One place of the map.
+// One place on the map.
 fn place(count: u64, region: u8, zone: u8, altitude: u16) -> u64 {
     let load = newtons(ground_loads::ground_load(region, zone, altitude));
     compared(

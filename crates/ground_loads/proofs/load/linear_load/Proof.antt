@@ -1,7 +1,7 @@
 use mathlib.Core.Path.{_∙_}
 use native.Mathlib.Omega.{arith}
 use native.Mathlib.Nat.{mul-le-mul}
-use Rattle.ground_loads.proofs.Rows.{rounded}
+use Rattle.rounding.proofs.Rounding.{up-whole}
 use borrow.Author.Needs.{needs}
 use Rattle.ground_loads.proofs.load.linear_load.Statement.{statement}
 use Rattle.ground_loads.proofs.load.linear_load.Tie as tie
@@ -19,7 +19,7 @@ ceil-div-requires : tie.Need-ceil-div-requires
 ceil-div-requires c κs = search needs
 
 returns : tie.Need-returns
-returns c = c .ceil-div .ensures ∙ rounded _ _
+returns c = c .ceil-div .ensures ∙ up-whole _ _
 
 pub linear-load-spec : {M : Type 1} → statement M
 linear-load-spec =

@@ -1,6 +1,5 @@
 use native.Mathlib.Omega.{arith}
 use Rattle.ground_loads.proofs.Kept.{map-kept, load-most}
-use borrow.Author.Needs.{needs}
 use Rattle.ground_loads.proofs.map.sk_on_map.Statement.{statement}
 use Rattle.ground_loads.proofs.map.sk_on_map.Tie as tie
 

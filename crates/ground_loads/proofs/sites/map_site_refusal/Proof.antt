@@ -15,7 +15,7 @@ first-requires : tie.Need-first-requires
 first-requires c κs = search needs
 
 returns : tie.Need-returns
-returns c = 
+returns c =
     let a = c .before .before .before in
     rw (c .first .ensures, c .before .map-refusal .ensures, c .before .before .refused-if .ensures, a .other-fields .ensures)
 
