@@ -25,7 +25,18 @@ extern "C" {
 /* Whether an answer is a refusal: 0x80000000 or more, and not SNOW_NONE. */
 #define SNOW_IS_REFUSAL(answer) ((uint32_t)(answer) - SNOW_REFUSED < SNOW_NONE - SNOW_REFUSED)
 
-/* The number of a refusal and the item that it names. */
+/* The number of a refusal and the item that it names:
+ *  1 a sheet of fewer than 2 or more than 16,384 bytes, a count outside 1..32, or pairs that don't fit
+ *  2 an item that overlaps what is before it or runs past the sheet
+ *  3 an unknown kind
+ *  4 an item that is empty or not of its kind's length
+ *  5 a first item that is no site, or a later site
+ *  6 a site's field outside its range, altitude apart; 7 an altitude above 1,500 m
+ *  8 a roof's field outside its range; 9 a valley too steep; 10 a rise above half the span
+ * 11 a slice shorter than four numbers a segment
+ * 12 a station past the roof's end, or an index not below the count
+ * 13 an arrangement that the roof hasn't in this situation
+ * 14 a map site's region outside 1..8 or its zone outside 1..5; 15 its ground load outside 100..25,000 N/m2 */
 #define SNOW_NUMBER(refusal) (((uint32_t)(refusal) - SNOW_REFUSED) / 65536u)
 #define SNOW_ITEM(refusal) ((uint32_t)(refusal) % 65536u)
 

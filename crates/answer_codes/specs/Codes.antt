@@ -1,7 +1,7 @@
 -- Answers as numbers of 32 bits, as the header has them.
 use Prim.Native.Nat.{ℕ, _+_, _*_, min}
-use Rattle.ground_loads.specs.declared.map.GroundLoad.{GroundLoad}
-use Rattle.ground_loads.specs.declared.map.GroundLoad.the-variants.{Load, Refused}
+use Rattle.map_sites.specs.declared.map.GroundLoad.{GroundLoad}
+use Rattle.map_sites.specs.declared.map.GroundLoad.the-variants.{Load, Refused}
 use Rattle.pairs.specs.Pairs as sheets
 use Rattle.standard.specs.Answers.{Answer, value, refused}
 use Rattle.standard.specs.Forces as forces

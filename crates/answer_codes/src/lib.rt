@@ -6,8 +6,8 @@ ghost use Rattle.local_forces.specs.Answers.{forceMeans};
 ghost use Rattle.reading.specs.Reading.{readingMeans};
 ghost use Rattle.answer_codes.specs.Codes.{refusalCode, answerCode, groundCode, forceCode};
 use arrangement::Made;
-use ground_loads::GroundLoad;
 use local_forces::LocalForce;
+use map_sites::GroundLoad;
 use reading::Reading;
 
 // The answer where there is no such force.

@@ -1,10 +1,5 @@
-// The load on the ground by the map, refusals 14 and 15, and the site that an item's data are.
+// Table C.1 of EN 1991-1-3: the load on the ground by region, zone and altitude. For the crates above, which have the refusals.
 mod load;
-mod map;
-mod sites;
 mod table;
 
-pub use map::GroundLoad;
-pub use map::ground_load;
-pub use sites::site_data_refusal;
-pub use sites::site_from;
+pub use load::table_load;

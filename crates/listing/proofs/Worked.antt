@@ -10,7 +10,7 @@ use Rattle.force_rows.specs.Rows.{slopeRows, forceRows}
 use Rattle.roof_rows.specs.Rows.{segmentRows, codeRows, codesRows, arrangementRows}
 use Rattle.roof_rows.specs.Rows.{roofRows}
 use Rattle.ground_loads.specs.Map.{rows, rowOf, zoneLoad, expression, groundLoad}
-use Rattle.ground_loads.specs.Sites.{mapRefusal, siteDataRefusal}
+use Rattle.map_sites.specs.Sites.{mapRefusal, siteDataRefusal}
 use Rattle.listing.specs.Listing.{itemRows, itemsRows, listingBy, listing}
 use Rattle.rounding.specs.Limit.{larger}
 use Rattle.rounding.specs.Load.{breakLoad}

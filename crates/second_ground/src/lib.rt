@@ -10,7 +10,7 @@ use second_numbers::whole;
 // A refusal is this and its number.
 pub const REFUSED: u32 = 4_000_000_000;
 
-// What is added to and taken off for a zone, in thousandths of a kN/m².
+// The load of a zone at sea level, in thousandths of a kN/m².
 fn at_sea_level(region: u8, zone: u32) -> u32 {
     match region {
         1 => sum(multiple(642, zone), 9),

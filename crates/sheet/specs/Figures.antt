@@ -5,7 +5,7 @@ use Rattle.figures.specs.RoofRules.{noSlopes, roofOf}
 use Rattle.figures.specs.declared.site.Site.{Site}
 use Rattle.figures.specs.declared.roof.Shape.the-variants.{MultiSpan}
 use Rattle.figures.specs.declared.roof.Roof.{Roof}
-use Rattle.ground_loads.specs.Sites.{siteFrom}
+use Rattle.map_sites.specs.Sites.{siteFrom}
 use Rattle.items.specs.declared.decoding.Item.{Item}
 use Rattle.items.specs.declared.decoding.Item.the-variants.{SiteItem, RoofItem, Malformed}
 

@@ -6,7 +6,7 @@ use mathlib.Core.Path.{_≡_}
 use lib.Dec.{ltb}
 use lib.ListN.{length, take, drop}
 use Rattle.figures.specs.RoofRules.{shapeRefusal}
-use Rattle.ground_loads.specs.Sites.{siteDataRefusal}
+use Rattle.map_sites.specs.Sites.{siteDataRefusal}
 use Rattle.items.specs.Items.{content}
 use Rattle.items.specs.declared.decoding.Item.{Item}
 use Rattle.items.specs.declared.decoding.Item.the-variants.{SiteItem, RoofItem, Malformed}

@@ -7,10 +7,10 @@ ghost use Rattle.pairs.specs.Pairs.{terminals, offset, size, inTurn, pairsVerdi
 ghost use Rattle.sheet.specs.Sheet.{part, misplaced, ruleOf, itemNumber};
 ghost use Rattle.pairs.specs.Pairs.{accepted, verdictMeans};
 ghost use Rattle.sheet.specs.Sheet.{sheetVerdict, place, partAt, locatedMeans};
-use ground_loads::site_data_refusal;
 use items::Item;
 use items::decode;
 use little_endian::index_at;
+use map_sites::site_data_refusal;
 use pairs::Ceiling;
 use pairs::Verdict;
 use pairs::read_pairs;

@@ -9,8 +9,8 @@ use lib.ListN.{length}
 use native.Mathlib.Omega.{arith}
 use Rattle.figures.specs.declared.site.Ground.the-variants.{OnMap}
 use Rattle.figures.specs.declared.site.SiteData.{SiteData}
-use Rattle.ground_loads.proofs.Kept.{given-kept}
-use Rattle.ground_loads.specs.Sites.{skOf, asGiven, siteDataRefusal}
+use Rattle.map_sites.proofs.Kept.{given-kept}
+use Rattle.map_sites.specs.Sites.{skOf, asGiven, siteDataRefusal}
 use Rattle.items.specs.Items.{sized, siteDataAt, siteItem, mapSiteItem, byKind, content}
 use Rattle.items.specs.declared.decoding.Item.{Item}
 use Rattle.items.specs.declared.decoding.Item.the-variants.{SiteItem}

@@ -7,7 +7,7 @@ use Rattle.figures.specs.RoofRules.{roofRefusal}
 use Rattle.figures.specs.SiteRules.{siteRefusal}
 use Rattle.figures.specs.declared.site.Site.{Site}
 use Rattle.figures.specs.declared.roof.Roof.{Roof}
-use Rattle.ground_loads.proofs.Kept.{site-accepted}
+use Rattle.map_sites.proofs.Kept.{site-accepted}
 use Rattle.items.proofs.Numbered.{Numbered, numbered}
 use Rattle.items.specs.Items.{content}
 use Rattle.items.specs.declared.decoding.Item.{Item}

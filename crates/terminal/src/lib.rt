@@ -8,15 +8,15 @@ ghost use Rattle.sheet_figures.specs.Find.{found};
 ghost use Rattle.pairs.specs.Pairs.{terminals};
 ghost use Rattle.sheet.specs.Sheet.{sheetVerdict};
 ghost use Rattle.answer_codes.specs.Codes.{verdictCode, groundCode};
-ghost use Rattle.ground_loads.specs.Sites.{groundAnswer};
+ghost use Rattle.map_sites.specs.Sites.{groundAnswer};
 ghost use Rattle.item_answers.specs.Calls.{makeCode, sliceAfter, loadCode, overhangCode, guardCode};
 use answer_codes::ground;
 use answer_codes::refusal;
-use ground_loads::ground_load;
 use item_answers::guard_force_at;
 use item_answers::load_at;
 use item_answers::make_at;
 use item_answers::overhang_at;
+use map_sites::ground_load;
 use sheet::Verdict;
 use sheet_figures::find;
 

@@ -1,7 +1,7 @@
 // The ground load of every place on the map, and of places beside it, against the second calculation.
-use super::readings::REFUSED;
 use super::tally::compared;
-use ground_loads::GroundLoad;
+use map_sites::GroundLoad;
+use second_ground::REFUSED;
 use stored_lines::byte;
 
 // The load, or the refusal.
@@ -14,7 +14,7 @@ fn newtons(answer: GroundLoad) -> u32 {
 
 // One place on the map.
 fn place(count: u64, region: u8, zone: u8, altitude: u16) -> u64 {
-    let load = newtons(ground_loads::ground_load(region, zone, altitude));
+    let load = newtons(map_sites::ground_load(region, zone, altitude));
     compared(
         count,
         load != second_ground::ground_load(region, zone, altitude),

@@ -2,7 +2,7 @@
 // was.
 ghost use mathlib.Core.Path.{_≡_};
 ghost use Rattle.figures.specs.SiteRules.{siteRefusal};
-ghost use Rattle.ground_loads.specs.Sites.{skOf, siteWith, siteFrom, refusalBy, siteDataRefusal};
+ghost use Rattle.map_sites.specs.Sites.{skOf, siteWith, siteFrom, refusalBy, siteDataRefusal};
 ghost use Rattle.figures.specs.declared.site.Ground.the-variants.{OnMap};
 use crate::map::map_refusal;
 use crate::map::sk_on_map;

@@ -1,8 +1,8 @@
 use mathlib.Core.Path.{sym, _∙_}
-use Rattle.ground_loads.proofs.Kept.{ground-refused, ground-answered}
+use Rattle.map_sites.proofs.Kept.{ground-refused, ground-answered}
 use borrow.Author.Needs.{needs}
-use Rattle.ground_loads.proofs.map.ground_load.Statement.{statement}
-use Rattle.ground_loads.proofs.map.ground_load.Tie as tie
+use Rattle.map_sites.proofs.map.ground_load.Statement.{statement}
+use Rattle.map_sites.proofs.map.ground_load.Tie as tie
 
 map-refusal-requires : tie.Need-map-refusal-requires
 map-refusal-requires c κs = search needs

@@ -1,7 +1,7 @@
 use native.Mathlib.Omega.{arith}
-use Rattle.ground_loads.proofs.Kept.{map-kept, load-most}
-use Rattle.ground_loads.proofs.map.sk_on_map.Statement.{statement}
-use Rattle.ground_loads.proofs.map.sk_on_map.Tie as tie
+use Rattle.map_sites.proofs.Kept.{map-kept, load-most}
+use Rattle.map_sites.proofs.map.sk_on_map.Statement.{statement}
+use Rattle.map_sites.proofs.map.sk_on_map.Tie as tie
 
 table-load-requires : tie.Need-table-load-requires
 table-load-requires c κs = map-kept _ _ _ (c .pre) .0

@@ -1,9 +1,9 @@
 // A place on the map: its ground load, or the first rule that it breaks.
 ghost use mathlib.Core.Path.{_≡_};
 ghost use Rattle.ground_loads.specs.Map.{groundLoad};
-ghost use Rattle.ground_loads.specs.Sites.{mapFields, mapRefusal, groundAnswer};
-use crate::load::table_load;
+ghost use Rattle.map_sites.specs.Sites.{mapFields, mapRefusal, groundAnswer};
 use figures::refused_if;
+use ground_loads::table_load;
 use site_rules::altitude_refusal;
 use site_rules::ground_field;
 

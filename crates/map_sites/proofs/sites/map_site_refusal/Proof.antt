@@ -1,6 +1,6 @@
 use borrow.Author.Needs.{needs}
-use Rattle.ground_loads.proofs.sites.map_site_refusal.Statement.{statement}
-use Rattle.ground_loads.proofs.sites.map_site_refusal.Tie as tie
+use Rattle.map_sites.proofs.sites.map_site_refusal.Statement.{statement}
+use Rattle.map_sites.proofs.sites.map_site_refusal.Tie as tie
 
 other-fields-requires : tie.Need-other-fields-requires
 other-fields-requires c κs = search needs

@@ -1,7 +1,7 @@
-use Rattle.ground_loads.proofs.Kept.{site-accepted}
+use Rattle.map_sites.proofs.Kept.{site-accepted}
 use borrow.Author.Needs.{needs}
-use Rattle.ground_loads.proofs.sites.site_from.Statement.{statement}
-use Rattle.ground_loads.proofs.sites.site_from.Tie as tie
+use Rattle.map_sites.proofs.sites.site_from.Statement.{statement}
+use Rattle.map_sites.proofs.sites.site_from.Tie as tie
 
 sk-of-requires : tie.Need-sk-of-requires
 sk-of-requires c κs = search needs

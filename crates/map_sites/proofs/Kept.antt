@@ -13,10 +13,10 @@ use Rattle.figures.specs.SiteRules.{groundField, otherFields, altitudeRefusal, 
 use Rattle.figures.specs.declared.site.Ground.{Ground}
 use Rattle.figures.specs.declared.site.Ground.the-variants.{Given, OnMap}
 use Rattle.figures.specs.declared.site.SiteData.{SiteData}
 use Rattle.ground_loads.specs.Map.{MapIn, groundLoad}
-use Rattle.ground_loads.specs.Sites.{mapFields, mapRefusal, groundAnswer, skOf, siteWith, siteFrom, asGiven}
-use Rattle.ground_loads.specs.Sites.{refusalBy, siteDataRefusal}
-use Rattle.ground_loads.specs.declared.map.GroundLoad.the-variants.{Load, Refused}
+use Rattle.map_sites.specs.Sites.{mapFields, mapRefusal, groundAnswer, skOf, siteWith, siteFrom, asGiven}
+use Rattle.map_sites.specs.Sites.{refusalBy, siteDataRefusal}
+use Rattle.map_sites.specs.declared.map.GroundLoad.the-variants.{Load, Refused}
 
 module _ (region zone altitude : ℕ) where
   pub map-high : (altitudeRefusal altitude ≡ 0 → ⊥) → altitudeRefusal altitude ≡ mapRefusal region zone altitude

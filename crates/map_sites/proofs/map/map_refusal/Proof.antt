@@ -1,10 +1,10 @@
 use mathlib.Core.Path.{_≡_, sym, _∙_}
 use borrow.Author.Tests.{not-true, not-false}
 use Rattle.figures.specs.SiteRules.{altitudeRefusal}
-use Rattle.ground_loads.proofs.Kept.{map-high, map-outside, map-inside, place-in}
+use Rattle.map_sites.proofs.Kept.{map-high, map-outside, map-inside, place-in}
 use borrow.Author.Needs.{needs}
-use Rattle.ground_loads.proofs.map.map_refusal.Statement.{statement}
-use Rattle.ground_loads.proofs.map.map_refusal.Tie as tie
+use Rattle.map_sites.proofs.map.map_refusal.Statement.{statement}
+use Rattle.map_sites.proofs.map.map_refusal.Tie as tie
 
 -- the altitude's rule is kept
 low : (c : tie.Else1) → altitudeRefusal (c .before .before .args .altitude) ≡ 0

@@ -1,7 +1,7 @@
-use Rattle.ground_loads.specs.Sites.{siteDataRefusal}
+use Rattle.map_sites.specs.Sites.{siteDataRefusal}
 use borrow.Author.Needs.{needs}
-use Rattle.ground_loads.proofs.sites.site_data_refusal.Statement.{statement}
-use Rattle.ground_loads.proofs.sites.site_data_refusal.Tie as tie
+use Rattle.map_sites.proofs.sites.site_data_refusal.Statement.{statement}
+use Rattle.map_sites.proofs.sites.site_data_refusal.Tie as tie
 
 enum-known-ground : tie.Need-enum-known-ground
 enum-known-ground c = search needs

@@ -1,7 +1,7 @@
-use Rattle.ground_loads.proofs.Kept.{place-kept}
+use Rattle.map_sites.proofs.Kept.{place-kept}
 use borrow.Author.Needs.{needs}
-use Rattle.ground_loads.proofs.sites.sk_of.Statement.{statement}
-use Rattle.ground_loads.proofs.sites.sk_of.Tie as tie
+use Rattle.map_sites.proofs.sites.sk_of.Statement.{statement}
+use Rattle.map_sites.proofs.sites.sk_of.Tie as tie
 
 enum-known-ground : tie.Need-enum-known-ground
 enum-known-ground c = search needs

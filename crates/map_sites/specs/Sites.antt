@@ -9,9 +9,9 @@ use Rattle.figures.specs.declared.site.Ground.{Ground}
 use Rattle.figures.specs.declared.site.Ground.the-variants.{Given, OnMap}
 use Rattle.figures.specs.declared.site.Site.{Site}
 use Rattle.figures.specs.declared.site.SiteData.{SiteData}
 use Rattle.ground_loads.specs.Map.{groundLoad}
-use Rattle.ground_loads.specs.declared.map.GroundLoad.{GroundLoad}
-use Rattle.ground_loads.specs.declared.map.GroundLoad.the-variants.{Load, Refused}
+use Rattle.map_sites.specs.declared.map.GroundLoad.{GroundLoad}
+use Rattle.map_sites.specs.declared.map.GroundLoad.the-variants.{Load, Refused}
 
 -- "Regions 1 to 8", "zones 1 to 5"
 abbrev pub mapFields : ℕ → ℕ → Bool
