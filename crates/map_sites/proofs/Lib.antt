@@ -1,3 +1,3 @@
-pub mod Answered
 pub mod Figures
 pub mod Kept
+pub mod Loads

@@ -1,4 +1,4 @@
--- What `ground_load` answers is the smallest whole number not below the row's expression, and no less at a higher altitude.
+-- The loads that `ground_load` answers: the smallest whole number not below the row's expression, and no less at a higher altitude.
 use Prim.Native.Nat.{ℕ, _≤_}
 use mathlib.Core.Bool.{Bool, true, false, cond}
 use mathlib.Core.Path.{_≡_, refl, subst}
