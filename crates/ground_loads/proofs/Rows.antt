@@ -1,56 +1,54 @@
 -- Table C.1: every row is in its bounds, its load is the smallest whole number not below its expression, and never falls as the
 -- altitude rises.
 use Prim.Native.Nat.{ℕ, zero, suc, _+_, _-_, _*_, _≤_, _<_}
-use mathlib.Core.Bool.{Bool, true, _&&_}
-use mathlib.Core.List.{List, [], _∷_}
-use mathlib.Core.Path.{_≡_, refl, sym}
-use borrow.Author.Tests.{leb-true}
-use lib.Dec.{leb}
-use lib.ListN.{length, getD}
-use native.Mathlib.Nat.{mul-le-mul, mul-le-mul-left, mul-le-mul-right, mul-pos, le-of-suc-le-suc, not-suc-le-zero}
+use mathlib.Core.Bool.{Bool}
+use mathlib.Core.Path.{_≡_, sym}
+use lib.Dec.{T, leb, leb→le}
+use native.Mathlib.Nat.{mul-le-mul, mul-le-mul-left, mul-le-mul-right, mul-pos}
 use native.Mathlib.Omega.{arith}
-use Rattle.figures.proofs.Accepted.{range}
-use Rattle.figures.proofs.Laws.{both}
 use Rattle.figures.specs.Bounds.{Within}
-use Rattle.figures.specs.Ranges.{within}
 use Rattle.rounding.specs.Fraction.{Below}
 use Rattle.rounding.specs.Up.{roundedUp, Smallest}
 use Rattle.rounding.proofs.Rounding.{up-smallest, up-mono}
-use Rattle.ground_loads.specs.Map.{RowIn, row, rows, rowOf, zoneLoad, byForm, expression, groundLoad}
+use Rattle.rounding.proofs.Tested.{both, both-left, both-right, every-at}
+use Rattle.ground_loads.specs.Map.{RowIn, rows, rowOf, zoneLoad, byForm, expression, groundLoad}
 use Rattle.ground_loads.specs.declared.table.Form.{Form}
 use Rattle.ground_loads.specs.declared.table.Form.the-variants.{Square, Linear}
 use Rattle.ground_loads.specs.declared.table.Row.{Row}
 
--- one test of a row, and of all of them
+-- one test of a row
 sound : Row → Bool
-sound r = leb (r .factor) 1000 && leb (r .plus) 1000 && leb (r .minus) (r .factor) && within 1 1000 (r .divisor)
+sound r =
+    both (leb (r .factor) 1000)
+    (both (leb (r .plus) 1000)
+    (both (leb (r .minus) (r .factor))
+    (both (leb 1 (r .divisor)) (leb (r .divisor) 1000))))
 
-every : List Row → Bool
-every [] = true
-every (r ∷ rs) = sound r && every rs
-
-means : (r : Row) → sound r ≡ true → RowIn r
+means : (r : Row) → T (sound r) → RowIn r
 unfolding sound
 means r t =
-    let a = both (leb (r .factor) 1000 && leb (r .plus) 1000 && leb (r .minus) (r .factor)) (within 1 1000 (r .divisor)) t in
-    let b = both (leb (r .factor) 1000 && leb (r .plus) 1000) (leb (r .minus) (r .factor)) (a .0) in
-    let c = both (leb (r .factor) 1000) (leb (r .plus) 1000) (b .0) in
+    let a = both-right (leb (r .factor) 1000) _ t in
+    let b = both-right (leb (r .plus) 1000) _ a in
+    let c = both-right (leb (r .minus) (r .factor)) _ b in
     record {
-      factor = leb-true (r .factor) 1000 (c .0);
-      plus = leb-true (r .plus) 1000 (c .1);
-      minus = leb-true (r .minus) (r .factor) (b .1);
-      divisor = range 1 1000 (r .divisor) (a .1);
+      factor = leb→le _ _ (both-left (leb (r .factor) 1000) _ t);
+      plus = leb→le _ _ (both-left (leb (r .plus) 1000) _ a);
+      minus = leb→le _ _ (both-left (leb (r .minus) (r .factor)) _ b);
+      divisor =
+          record {
+            low = leb→le _ _ (both-left (leb 1 (r .divisor)) (leb (r .divisor) 1000) c);
+            high = leb→le _ _ (both-right (leb 1 (r .divisor)) (leb (r .divisor) 1000) c);
+          };
     }
 
-at : (rs : List Row) (d : Row) → every rs ≡ true → (i : ℕ) → i < length rs → RowIn (getD rs i d)
-unfolding every
-at [] d t i h = absurd (not-suc-le-zero h)
-at (r ∷ rs) d t zero h = means r (both (sound r) (every rs) t .0)
-at (r ∷ rs) d t (suc i) h = at rs d (both (sound r) (every rs) t .1) i (le-of-suc-le-suc h)
+-- the test passes at every row of the table
+tested : (i : ℕ) → i < 8 → RowIn (rowOf (suc i))
+unfolding rowOf rows sound
+tested i h = means (rowOf (suc i)) (every-at (λ (k : ℕ). sound (rowOf (suc k))) 8 tt i h)
 
 pub row-in : (region : ℕ) → Within 1 8 region → RowIn (rowOf region)
-unfolding rowOf rows every sound
-row-in region h = at rows (row 0 0 0 0 Square) refl (region - 1) (omega (arith, h .low, h .high))
+row-in zero h = absurd (omega (arith, h .low))
+row-in (suc i) h = tested i (omega (arith, h .high))
 
 positive : (f : Form) (base divisor altitude : ℕ) → 1 ≤ divisor → 0 < byForm f base divisor altitude .den
 positive Square base divisor altitude h = mul-pos h h

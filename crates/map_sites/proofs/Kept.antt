@@ -14,7 +14,7 @@ use Rattle.figures.specs.declared.site.Ground.{Ground}
 use Rattle.figures.specs.declared.site.Ground.the-variants.{Given, OnMap}
 use Rattle.figures.specs.declared.site.SiteData.{SiteData}
 use Rattle.ground_loads.specs.Map.{MapIn, groundLoad}
-use Rattle.map_sites.specs.Sites.{mapFields, mapRefusal, groundAnswer, skOf, siteWith, siteFrom, asGiven}
+use Rattle.map_sites.specs.Sites.{mapFields, mapRefusal, groundAnswer, skOf, siteWith, siteFrom}
 use Rattle.map_sites.specs.Sites.{refusalBy, siteDataRefusal}
 use Rattle.map_sites.specs.declared.map.GroundLoad.the-variants.{Load, Refused}
 
@@ -85,8 +85,3 @@ module _ (d : SiteData) where
   pub site-accepted : siteDataRefusal d ≡ 0 → siteRefusal (siteFrom d) ≡ 0
   unfolding siteDataRefusal
   site-accepted e = site-by (d .ground) e
-
-  -- and the kind 1 site with its load, which is the same site, breaks none either
-  pub given-kept : siteDataRefusal d ≡ 0 → siteDataRefusal (asGiven d) ≡ 0
-  unfolding siteDataRefusal
-  given-kept e = site-by (d .ground) e

@@ -1,3 +1,4 @@
 pub mod Rounding
 pub mod Ramps
 pub mod Limited
+pub mod Tested

@@ -9,7 +9,7 @@ use lib.ListN.{length}
 use native.Mathlib.Omega.{arith}
 use Rattle.figures.specs.declared.site.Ground.the-variants.{OnMap}
 use Rattle.figures.specs.declared.site.SiteData.{SiteData}
-use Rattle.map_sites.proofs.Kept.{given-kept}
+use Rattle.map_sites.proofs.Kept.{site-accepted}
 use Rattle.map_sites.specs.Sites.{skOf, asGiven, siteDataRefusal}
 use Rattle.items.specs.Items.{sized, siteDataAt, siteItem, mapSiteItem, byKind, content}
 use Rattle.items.specs.declared.decoding.Item.{Item}
@@ -65,9 +65,9 @@ module _ (s t : List ℕ) (n : ℕ) (g : GivenLoad s t n) where
   kept = sym (ap (λ (x : Item). ruleNumber 0 x (content (part s 0) .slopes)) site) ∙ g .sound
 
   same-number : (i : ℕ) → 0 ≤ i → i < 0 + n → itemNumber s i ≡ itemNumber t i
-  unfolding itemNumber
+  unfolding itemNumber siteDataRefusal
   same-number zero a b =
-      g .sound ∙ sym (ap (λ (x : Item). ruleNumber 0 x (content (part t 0) .slopes)) given-site ∙ given-kept d kept)
+      g .sound ∙ sym (ap (λ (x : Item). ruleNumber 0 x (content (part t 0) .slopes)) given-site ∙ site-accepted d kept)
   same-number (suc i) a b = rw (g .others (suc i) (omega arith) (omega arith))
 
   pub same-verdict : sheetVerdict terminals s ≡ sheetVerdict terminals t

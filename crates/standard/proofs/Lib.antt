@@ -12,4 +12,3 @@ pub mod Pitched
 pub mod Projection
 pub mod Runs
 pub mod Sine
-pub mod Tested

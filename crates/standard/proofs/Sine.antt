@@ -6,7 +6,7 @@ use native.Mathlib.Nat.{div-mul-le-self, lt-div-mul-add}
 use native.Mathlib.Omega.{arith}
 use Rattle.rounding.specs.Fraction.{Fraction}
 use Rattle.standard.specs.Sine.{angleNum, seriesPlus, seriesMinus, sineReference, nearest, sineEntry}
-use Rattle.standard.proofs.Tested.{both, both-left, both-right, every-at}
+use Rattle.rounding.proofs.Tested.{both, both-left, both-right, every-at}
 
 -- a count e of millionths is within half a millionth of f
 pub record HalfMillionth (e : ℕ) (f : Fraction) : Type 0 where

@@ -7,7 +7,7 @@ use Prim.Native.Nat.{ℕ}
 use mathlib.Core.Bool.{Bool}
 use lib.Dec.{eqb, eqb→eq}
 use Rattle.standard.specs.Sine.{sineReference, sineEntry}
-use Rattle.standard.proofs.Tested.{every-at}
+use Rattle.rounding.proofs.Tested.{every-at}
 use borrow.Author.Needs.{needs}
 use Rattle.sines.proofs.sine.Statement.{statement}
 use Rattle.sines.proofs.sine.Tie as tie

@@ -1,9 +1,19 @@
+use Prim.Native.Nat.{_≤_}
 use mathlib.Core.Path.{_∙_}
+use Rattle.figures.specs.Bounds.{Within}
 use Rattle.ground_loads.specs.declared.table.Form.the-variants.{Square, Linear}
 use Rattle.ground_loads.proofs.Rows.{row-in, load-by}
 use borrow.Author.Needs.{needs}
 use Rattle.ground_loads.proofs.load.table_load.Statement.{statement}
 use Rattle.ground_loads.proofs.load.table_load.Tie as tie
+
+-- what both forms ask for
+fits :
+    (c : tie.After-zone-load)
+    → (c .zone-load .result ≤ 6000) × Within 1 1000 (c .before .row-of .result .divisor) × (c .before .before .args .altitude ≤ 1500)
+fits c =
+    let a = c .before in
+    (c .zone-load .ensures .1, rw (a .row-of .ensures) (row-in _ (a .before .pre .region) .divisor), a .before .pre .altitude)
 
 row-of-requires : tie.Need-row-of-requires
 row-of-requires c κs = (c .pre .region .low, c .pre .region .high)
@@ -15,19 +25,13 @@ enum-told : tie.Need-enum-told
 enum-told c = search needs
 
 square-load-requires : tie.Need-square-load-requires
-square-load-requires c κs =
-    let b = c .before .before in
-    let a = b .before in
-    (b .zone-load .ensures .1, rw (a .row-of .ensures) (row-in _ (a .before .pre .region) .divisor), a .before .pre .altitude)
+square-load-requires c κs = fits (c .before .before)
 
 enum-told-2 : tie.Need-enum-told-2
 enum-told-2 c = search needs
 
 linear-load-requires : tie.Need-linear-load-requires
-linear-load-requires c κs =
-    let b = c .before .before in
-    let a = b .before in
-    (b .zone-load .ensures .1, rw (a .row-of .ensures) (row-in _ (a .before .pre .region) .divisor), a .before .pre .altitude)
+linear-load-requires c κs = fits (c .before .before)
 
 returns : tie.Need-returns
 returns c =
