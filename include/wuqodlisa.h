@@ -31,8 +31,9 @@ extern "C" {
  *  3 an unknown kind
  *  4 an item that is empty or not of its kind's length
  *  5 a first item that is no site, or a later site
- *  6 a site's field outside its range, altitude apart; 7 an altitude above 1,500 m
- *  8 a roof's field outside its range; 9 a valley too steep; 10 a rise above half the span
+ *  6 a site's field outside its range, altitude apart (a situation above 3 too); 7 an altitude above 1,500 m
+ *  8 a roof's field outside its range (of kinds 4 and 9 a count of spans outside 2..16 too)
+ *  9 a valley of kind 4 or 9 too steep; 10 a rise above half the span
  * 11 a slice shorter than four numbers a segment
  * 12 a station past the roof's end, or an index not below the count
  * 13 an arrangement that the roof hasn't in this situation
@@ -41,10 +42,14 @@ extern "C" {
 #define SNOW_ITEM(refusal) ((uint32_t)(refusal) % 65536u)
 
 /* A number of bytes that holds the listing of any sheet. */
-#define SNOW_LIST_ROOM 275557
+#define SNOW_LIST_ROOM 267373
 
 /* The count of a sheet's items, or a refusal (1 to 10, 14, 15; a map site's 14 and 15 come after its 6 and 7). */
 uint32_t snow_verdict(const uint8_t *sheet, size_t length);
+
+/* Codes of arrangements: 1, 2, 3 persistent snow; 11, 12, 13 the same shapes with exceptional falls; 30 + j, at most 45,
+ * an exceptional drift in valley j of a roof of kind 9. Situations (Annex A): 0 case A, 1 B1, 2 B2, 3 B3. Codes 12 and 13
+ * belong to situation 1, 11 to 1 and 3, drifts to 2 and 3, where kind 9 has no code 2. */
 
 /* Writes the segments of an item's arrangement at the front of out, four numbers each: start, end, load, load.
  * Numbers behind them keep their values. 128 numbers are room for any arrangement.

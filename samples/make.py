@@ -38,6 +38,15 @@ def multi_span(*spans):
     return item
 
 
+def drift_roof(spans, *valleys):
+    """Spans as in multi_span, then each valley between them: depth h, length b3."""
+    item = multi_span(*spans)
+    item = bytes([9]) + item[1:]
+    for depth, length in valleys:
+        item += struct.pack("<II", depth, length)
+    return item
+
+
 def cylindrical(rise, span):
     return struct.pack("<BII", 5, rise, span)
 
@@ -63,6 +72,8 @@ def sheet(*items, gap=0):
 
 HALL = pitched((20.0, 40.0), (9_000, 6_000))
 SAW = (60.0, 25.0, 2_400, 7_600)
+COAST = [(25.0, 25.0, 6_000, 5_500), (25.0, 25.0, 5_000, 5_000), (25.0, 25.0, 5_500, 6_000)]
+DEEP = [(35.0, 45.0, 4_500, 4_000), (45.0, 35.0, 4_000, 4_500)]
 
 SHEETS = {
     "scope": sheet(site(1_000, altitude=500), monopitch(30.0, 5_000, guard=1)),
@@ -116,6 +127,18 @@ SHEETS = {
     # Kind 8
     "map_alpine": sheet(map_site(1, 2, altitude=500), HALL),
     "map_coast": sheet(map_site(8, 3, ce=80, situation=1, altitude=120), cylindrical(2_500, 16_000)),
+    # Kind 9, and exceptional drifts
+    "drift_both": sheet(
+        site(650, ce=80, cesl=230, situation=3, altitude=40),
+        drift_roof(COAST, (1_400, 15_000), (900, 15_000)),
+        HALL,
+        projection(1_200, 8_000, 12_000),
+    ),
+    "drift_alone": sheet(
+        map_site(8, 3, ct=90, situation=2, altitude=60),
+        drift_roof(DEEP, (3_000, 40_000)),
+        multi_span(*DEEP),
+    ),
     # Refused
     "refused_pairs": sheet(site(1_500), HALL)[:9],
     "refused_cut": sheet(site(1_500), HALL)[:-3],
@@ -124,6 +147,12 @@ SHEETS = {
     "refused_rise": sheet(site(1_500), cylindrical(6_001, 12_000)),
     "refused_region": sheet(map_site(9, 2, altitude=500), HALL),
     "refused_map_load": sheet(map_site(8, 1, altitude=20), HALL),
+    "refused_situation": sheet(site(1_500, situation=4), HALL),
+    "refused_depth": sheet(
+        site(1_500, situation=2),
+        HALL,
+        drift_roof([(45.0, 60.0, 4_000, 3_000), (60.0, 45.0, 3_000, 4_000)], (0, 12_000)),
+    ),
 }
 
 for name, content in SHEETS.items():

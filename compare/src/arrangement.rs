@@ -1,10 +1,14 @@
 //! Arrangements: segments from left to right that cover a roof.
 
+use std::ops::Range;
+
 use crate::loads::{self, Fall, Shape};
-use crate::sheet::{LowerRoof, Roof, Site, Slope, MAX_SLOPES};
+use crate::sheet::{DriftRoof, LowerRoof, Roof, Site, Situation, Slope, MAX_SLOPES};
 
 /// Added to a code for the same shape under an exceptional fall.
 const EXCEPTIONAL: u8 = 10;
+/// The code of an exceptional drift is this plus the number of its valley, from 1 at the left.
+const DRIFT: u8 = 30;
 /// Quarter millimetres in a millimetre.
 const QUARTERS: i32 = 4;
 
@@ -49,22 +53,27 @@ pub struct Arrangement {
 impl Arrangement {
     /// The arrangement of a code, where there is one for the roof in the site's situation.
     pub fn of(site: &Site, roof: &Roof, code: u8) -> Option<Self> {
-        let (shape, fall) = if code > EXCEPTIONAL {
-            (code - EXCEPTIONAL, Fall::exceptional(site))
-        } else {
-            (code, Fall::persistent(site))
-        };
-        let exists = shapes(roof).contains(&shape)
-            && (code <= EXCEPTIONAL || has_exceptional_codes(site, roof));
-        exists.then(|| Self::shaped(site, roof, shape, fall))
+        Codes::of(site, roof)
+            .contains(code)
+            .then(|| Self::coded(site, roof, code))
+    }
+
+    fn coded(site: &Site, roof: &Roof, code: u8) -> Self {
+        match roof {
+            Roof::Drift(roof) if code > DRIFT => drift(roof, usize::from(code - DRIFT), site),
+            _ if code > EXCEPTIONAL => {
+                Self::shaped(site, roof, code - EXCEPTIONAL, Fall::exceptional(site))
+            }
+            _ => Self::shaped(site, roof, code, Fall::persistent(site)),
+        }
     }
 
     fn shaped(site: &Site, roof: &Roof, shape: u8, fall: Fall) -> Self {
         match roof {
             Roof::Monopitch(slope) => even_slopes(&[*slope], fall),
             Roof::Pitched(slopes) => pitched(slopes, shape, fall),
-            Roof::MultiSpan(roof) if shape == 1 => even_slopes(roof.slopes(), fall),
-            Roof::MultiSpan(roof) => filled_valleys(roof.slopes(), fall),
+            Roof::MultiSpan(roof) => spans(roof.slopes(), shape, fall),
+            Roof::Drift(roof) => spans(roof.slopes(), shape, fall),
             Roof::Cylindrical { rise, span } => cylindrical(*rise, *span, shape, fall),
             Roof::Lower(roof) => lower(site, roof, shape, fall),
             Roof::Projection {
@@ -119,28 +128,66 @@ impl Arrangement {
 
 /// The codes of a roof in the site's situation, upward.
 pub fn codes(site: &Site, roof: &Roof) -> impl Iterator<Item = u8> {
-    let persistent = shapes(roof);
-    let exceptional = if has_exceptional_codes(site, roof) {
-        persistent
-    } else {
-        &[]
-    };
-    let raised = exceptional.iter().map(|shape| shape + EXCEPTIONAL);
-    persistent.iter().copied().chain(raised)
+    let codes = Codes::of(site, roof);
+    let fixed = codes.persistent.iter().chain(codes.falls).copied();
+    fixed.chain(codes.drifts)
 }
 
-fn shapes(roof: &Roof) -> &'static [u8] {
+/// The codes that exist, each part upward and below the next.
+struct Codes {
+    persistent: &'static [u8],
+    /// With exceptional falls.
+    falls: &'static [u8],
+    /// Exceptional drifts.
+    drifts: Range<u8>,
+}
+
+impl Codes {
+    fn of(site: &Site, roof: &Roof) -> Self {
+        let situation = site.situation;
+        Self {
+            persistent: persistent_codes(situation, roof),
+            falls: fall_codes(situation, roof),
+            drifts: drift_codes(situation, roof),
+        }
+    }
+
+    fn contains(&self, code: u8) -> bool {
+        self.persistent.contains(&code) || self.falls.contains(&code) || self.drifts.contains(&code)
+    }
+}
+
+/// Where valleys are designed by Annex B, drifts take the place of code 2.
+fn persistent_codes(situation: Situation, roof: &Roof) -> &'static [u8] {
     match roof {
         Roof::Monopitch(_) => &[1],
         Roof::Pitched(_) => &[1, 2, 3],
-        Roof::MultiSpan(_) | Roof::Cylindrical { .. } | Roof::Lower(_) => &[1, 2],
+        Roof::Drift(_) if situation.has_drifts() => &[1],
+        Roof::MultiSpan(_) | Roof::Drift(_) | Roof::Cylindrical { .. } | Roof::Lower(_) => &[1, 2],
         Roof::Projection { .. } => &[2],
     }
 }
 
-/// Drifts at a projection belong to the persistent situation alone (Annex A).
-fn has_exceptional_codes(site: &Site, roof: &Roof) -> bool {
-    site.has_exceptional_falls && !matches!(roof, Roof::Projection { .. })
+/// All shapes in case B1, the undrifted one in case B3. Drifts at a projection belong to the
+/// persistent situation alone.
+fn fall_codes(situation: Situation, roof: &Roof) -> &'static [u8] {
+    match (situation, roof) {
+        (Situation::Normal | Situation::Drifts, _) | (_, Roof::Projection { .. }) => &[],
+        (Situation::FallsAndDrifts, _) | (_, Roof::Monopitch(_)) => &[11],
+        (Situation::Falls, Roof::Pitched(_)) => &[11, 12, 13],
+        (Situation::Falls, _) => &[11, 12],
+    }
+}
+
+/// One for each valley.
+fn drift_codes(situation: Situation, roof: &Roof) -> Range<u8> {
+    match roof {
+        Roof::Drift(roof) if situation.has_drifts() => {
+            let first = DRIFT + 1;
+            first..first + roof.valleys().len() as u8
+        }
+        _ => 0..0,
+    }
 }
 
 fn quarters(length: u32) -> i32 {
@@ -177,6 +224,14 @@ fn pitched(slopes: &[Slope; 2], shape: u8, fall: Fall) -> Arrangement {
     made
 }
 
+fn spans(slopes: &[Slope], shape: u8, fall: Fall) -> Arrangement {
+    if shape == 1 {
+        even_slopes(slopes, fall)
+    } else {
+        filled_valleys(slopes, fall)
+    }
+}
+
 /// Drifted snow fills the valleys; the two outer slopes stay even (5.3.4).
 fn filled_valleys(slopes: &[Slope], fall: Fall) -> Arrangement {
     let mut made = Arrangement::over(width_of(slopes));
@@ -196,6 +251,26 @@ fn filled_valleys(slopes: &[Slope], fall: Fall) -> Arrangement {
         }
         start = end;
     }
+    made
+}
+
+/// An exceptional drift in one valley, numbered from 1. It falls to nothing at both ridges, and
+/// there is no snow elsewhere (B2).
+fn drift(roof: &DriftRoof, number: usize, site: &Site) -> Arrangement {
+    let (before, after) = roof.slopes().split_at(2 * number);
+    let (left, right) = (before[before.len() - 1], after[0]);
+    let mu = loads::mu_drift(roof.valleys()[number - 1], left, right, site);
+    let peak = Fall::drift(site).load(mu);
+    let mut made = Arrangement::over(width_of(roof.slopes()));
+    let valley = quarters(width_of(before));
+    let ridges = [
+        valley - quarters(left.width),
+        valley + quarters(right.width),
+    ];
+    made.even(0, ridges[0], 0);
+    made.ramp(ridges[0], valley, 0, peak);
+    made.ramp(valley, ridges[1], peak, 0);
+    made.even(ridges[1], made.end, 0);
     made
 }
 

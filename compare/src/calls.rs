@@ -189,7 +189,7 @@ mod tests {
         // Not of its length, as an item of kind 1, and behind another site.
         assert_eq!(verdict(&changed(&[(4, 11)])), 0x8004_0000);
         assert_eq!(verdict(&changed(&[(6, 1)])), 0x8004_0000);
-        for (kind, number) in [(0, 3), (8, 5), (9, 3)] {
+        for (kind, number) in [(0, 3), (8, 5), (10, 3)] {
             let mut sheet = vec![2, 0, 10, 0, 12, 0, 22, 0, 12, 0];
             sheet.extend(&MAP_SHEET[6..]);
             sheet.extend(&MAP_SHEET[6..]);
@@ -213,6 +213,30 @@ mod tests {
         assert_eq!(verdict(&changed(&[(7, 0)])), 0x800E_0000);
         assert_eq!(verdict(&changed(&[(7, 9)])), 0x800E_0000);
         assert_eq!(verdict(&changed(&[(8, 6)])), 0x800E_0000);
+    }
+
+    /// Situations 0 to 3 on both kinds of sites, and the altitude refused behind the situation.
+    #[test]
+    fn a_situation_is_at_most_3() {
+        for situation in 0..=255 {
+            let answer = if situation > 3 { 0x8006_0000 } else { 1 };
+            let mut sheet = SHEET;
+            sheet[17] = situation;
+            assert_eq!(verdict(&sheet), answer);
+            assert_eq!(verdict(&changed(&[(15, situation)])), answer);
+        }
+        assert_eq!(verdict(&changed(&[(15, 4), (17, 0xFF)])), 0x8006_0000);
+    }
+
+    /// In the site's place a roof of kind 9 is refused by 5 where its length fits, else by 4.
+    #[test]
+    fn a_roof_with_drifts_stands_behind_the_site() {
+        for (count, length, number) in [(1, 14, 5), (2, 34, 5), (0, 14, 4), (1, 13, 4), (2, 14, 4)]
+        {
+            let mut sheet = vec![1, 0, 6, 0, length, 0, 9, count];
+            sheet.resize(6 + usize::from(length), 0);
+            assert_eq!(verdict(&sheet), REFUSED + 65_536 * number);
+        }
     }
 
     #[test]

@@ -4,7 +4,7 @@ use std::hint::black_box;
 
 use second::calls::{self, LIST_ROOM};
 
-use crate::draft::MAP_SITE;
+use crate::draft;
 use crate::ffi;
 use crate::tally::{Call, Tally};
 
@@ -52,7 +52,12 @@ impl Checker {
         let count = if accepted { ours as usize } else { 0 };
         self.tally.sheets += 1;
         self.tally.accepted_sheets += u64::from(accepted);
-        self.tally.map_sheets += u64::from(accepted && has_map_site(sheet));
+        if accepted {
+            let site = site_of(sheet);
+            self.tally.map_sheets += u64::from(site[0] == draft::MAP_SITE);
+            let situation = draft::get(site, draft::situation(site));
+            self.tally.situations[situation as usize] += 1;
+        }
         let asked = Asked { sheet, count };
         self.settle(Call::Verdict, asked, 0, [ours, theirs], || {
             "verdict".to_string()
@@ -69,6 +74,7 @@ impl Checker {
         let theirs = ffi::make(asked.sheet, item, code, &mut self.theirs[lent.clone()]);
         black_box(&mut self.theirs);
         self.tally.length(room, ours);
+        self.tally.drifts.answer(code, ours);
         let describe = || format!("make item {item} code {code} room {room}");
         self.settle(Call::Make, asked, item, [ours, theirs], describe);
         if ours == theirs && self.ours != self.theirs {
@@ -85,6 +91,7 @@ impl Checker {
     pub fn load(&mut self, asked: Asked, item: usize, code: u8, station: u32) {
         let ours = calls::load(asked.sheet, item, code, station);
         let theirs = ffi::load(asked.sheet, item, code, station);
+        self.tally.drifts.answer(code, ours);
         self.settle(Call::Load, asked, item, [ours, theirs], || {
             format!("load item {item} code {code} station {station}")
         });
@@ -142,17 +149,33 @@ impl Checker {
         (ours < calls::REFUSED).then_some(ours)
     }
 
-    /// Compares the library's listing of a sheet with its listing of another that means the same.
-    pub fn alike(&mut self, sheet: &[u8], other: &[u8]) {
+    /// Compares the library's listing of a sheet with its listing of another that means the same;
+    /// whether they are alike.
+    pub fn alike(&mut self, sheet: &[u8], other: &[u8], what: &str) -> bool {
         let first = ffi::list(sheet, &mut self.buffer[FRINGE..FRINGE + LIST_ROOM]);
         let second = ffi::list(other, &mut self.text[..LIST_ROOM]);
-        if self.buffer[FRINGE..FRINGE + first] == self.text[..second] {
-            self.tally.map.alike += 1;
-        } else {
-            let describe = || "the ground load given lists otherwise".to_string();
-            self.tally.disagree(sheet, describe);
+        let alike = self.buffer[FRINGE..FRINGE + first] == self.text[..second];
+        if !alike {
+            self.tally
+                .disagree(sheet, || format!("{what} lists otherwise"));
         }
         self.buffer[FRINGE..FRINGE + first].fill(MARK_BYTE);
+        alike
+    }
+
+    /// Compares the library's segments with those that it makes of another sheet; whether they are
+    /// alike.
+    pub fn alike_segments(&mut self, sheets: [&[u8]; 2], item: usize, code: u8) -> bool {
+        let [first, second] = sheets.map(|sheet| {
+            let mut out = [MARK; 128];
+            (ffi::make(sheet, item, code, &mut out), out)
+        });
+        let alike = first == second;
+        if !alike {
+            let describe = || format!("item {item} code {code} differs under other coefficients");
+            self.tally.disagree(sheets[0], describe);
+        }
+        alike
     }
 
     fn settle(
@@ -180,10 +203,10 @@ impl Checker {
     }
 }
 
-/// Whether the first item of an accepted sheet is a map site.
-fn has_map_site(sheet: &[u8]) -> bool {
+/// The first item of an accepted sheet, and what stands behind it.
+fn site_of(sheet: &[u8]) -> &[u8] {
     let offset = u16::from_le_bytes([sheet[2], sheet[3]]);
-    sheet[usize::from(offset)] == MAP_SITE
+    &sheet[usize::from(offset)..]
 }
 
 fn is_marked(bytes: &[u8]) -> bool {

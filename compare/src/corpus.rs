@@ -8,9 +8,9 @@ use std::path::PathBuf;
 use crate::calls;
 use crate::listing;
 
-const DEFAULT: &str = concat!(env!("CARGO_MANIFEST_DIR"), "/../crates/trials/data/A1.bin");
+const DEFAULT: &str = concat!(env!("CARGO_MANIFEST_DIR"), "/../crates/trials/data/A2.bin");
 /// Records of that file.
-const RECORDS: usize = 286;
+const RECORDS: usize = 304;
 
 /// A sheet and the listing that it has to give.
 struct Record<'a> {

@@ -28,7 +28,7 @@ pub fn sheet(random: &mut Random) -> Vec<u8> {
 }
 
 fn harm_items(random: &mut Random, items: &mut Vec<Vec<u8>>, place: usize) {
-    match random.below(12) {
+    match random.below(14) {
         0..=2 => outside(random, &mut items[place]),
         3 => change_kind(random, &mut items[place]),
         4 => change_length(random, &mut items[place]),
@@ -41,6 +41,8 @@ fn harm_items(random: &mut Random, items: &mut Vec<Vec<u8>>, place: usize) {
         7 => items.push(bad_count(random)),
         8 => items.push(bad_valley(random)),
         9 | 10 => items[0] = off_map(random),
+        11 => items.push(bad_drift(random)),
+        12 => bad_situation(random, &mut items[0]),
         _ => items.push(bad_arch(random)),
     }
 }
@@ -59,12 +61,12 @@ fn outside(random: &mut Random, item: &mut [u8]) {
 
 fn change_kind(random: &mut Random, item: &mut [u8]) {
     if let Some(kind) = item.first_mut() {
-        *kind = random.pick(&[0, 1, 2, 3, 4, 5, 6, 7, 8, 9, 128, 255]);
+        *kind = random.pick(&[0, 1, 2, 3, 4, 5, 6, 7, 8, 9, 10, 128, 255]);
     }
 }
 
 fn change_length(random: &mut Random, item: &mut Vec<u8>) {
-    match random.below(7) {
+    match random.below(9) {
         0 => item.clear(),
         1 => item.truncate(1),
         2 => item.truncate(item.len().saturating_sub(1)),
@@ -72,7 +74,10 @@ fn change_length(random: &mut Random, item: &mut Vec<u8>) {
         // The lengths of the two sites.
         4 => item.resize(12, 0),
         5 => item.resize(14, 0),
-        _ => draft::noise(random, item, 12),
+        // A span more, a valley more, or both.
+        6 => draft::noise(random, item, 12),
+        7 => draft::noise(random, item, 8),
+        _ => draft::noise(random, item, 20),
     }
 }
 
@@ -140,23 +145,38 @@ fn off_map(random: &mut Random) -> Vec<u8> {
     item
 }
 
-/// A multi-span roof whose length fits a count outside 2..16, or whose count misses its length.
+/// A multi-span roof of either kind with a count outside 2..16, all else sound, whose length fits
+/// the count or doesn't.
 fn bad_count(random: &mut Random) -> Vec<u8> {
+    let kind = random.pick(&draft::SPANNED);
     let count = random.pick(&[0, 1, 17, 18, 255]);
-    let mut item = vec![0; 2 + 12 * usize::from(count)];
-    item[0] = draft::MULTI_SPAN;
-    item[1] = count;
-    if random.once_in(3) {
-        item[1] = random.byte();
+    let mut item = draft::any_spans(random, kind, count);
+    match random.below(6) {
+        0 => item[1] = random.byte(),
+        1 => change_length(random, &mut item),
+        2 => {
+            let other = random.pick(&draft::SPANNED);
+            item.resize(draft::spanned_length(other, count), 0);
+        }
+        _ => {}
     }
     item
 }
 
-/// A multi-span roof with steep slopes at a valley. 60.0° beside 59.9° is sound.
+/// A multi-span roof of either kind with steep slopes at a valley. 60.0° beside 59.9° is sound.
 fn bad_valley(random: &mut Random) -> Vec<u8> {
-    let spans = random.between(2, 16) as usize;
-    let mut item = draft::multi_span(random, spans);
-    let (left, right) = draft::valley_fields(1 + random.below(spans - 1));
+    let kind = random.pick(&draft::SPANNED);
+    let mut item = draft::item(random, kind);
+    steepen(random, &mut item);
+    if random.once_in(4) {
+        outside(random, &mut item);
+    }
+    item
+}
+
+fn steepen(random: &mut Random, item: &mut [u8]) {
+    let valleys = usize::from(item[1]) - 1;
+    let (left, right) = draft::valley_fields(1 + random.below(valleys));
     let pair = random.pick(&[
         (600, 600),
         (601, 0),
@@ -166,12 +186,30 @@ fn bad_valley(random: &mut Random) -> Vec<u8> {
         (800, 800),
         (600, 601),
     ]);
-    draft::put(&mut item, left, pair.0);
-    draft::put(&mut item, right, pair.1);
-    if random.once_in(4) {
-        outside(random, &mut item);
+    draft::put(item, left, pair.0);
+    draft::put(item, right, pair.1);
+}
+
+/// A valley whose depth or length is outside, sometimes with a steep one, which is refused later.
+fn bad_drift(random: &mut Random) -> Vec<u8> {
+    let mut item = draft::item(random, draft::DRIFT_ROOF);
+    let spans = usize::from(item[1]);
+    let figures = draft::drift_fields(spans, 1 + random.below(spans - 1));
+    let field = random.pick(&figures);
+    let value = random.pick(&[0, field.high + 1, 1 << 17, 1 << 31, u32::MAX]);
+    draft::put(&mut item, field, value);
+    if random.once_in(3) {
+        steepen(random, &mut item);
     }
     item
+}
+
+/// Only where the first item is a site, as any other has other fields.
+fn bad_situation(random: &mut Random, item: &mut [u8]) {
+    if matches!(item.first(), Some(&draft::SITE | &draft::MAP_SITE)) {
+        let number = random.pick(&[4, 5, 128, 255]);
+        draft::put(item, draft::situation(item), number);
+    }
 }
 
 /// An arch that is too high, sometimes with a figure outside its range as well.

@@ -12,12 +12,27 @@ pub const CYLINDRICAL: u8 = 5;
 const LOWER: u8 = 6;
 const PROJECTION: u8 = 7;
 pub const MAP_SITE: u8 = 8;
+pub const DRIFT_ROOF: u8 = 9;
+/// The kinds of roofs, in their order.
+pub const ROOFS: [u8; 7] = [
+    MONOPITCH,
+    PITCHED,
+    MULTI_SPAN,
+    CYLINDRICAL,
+    LOWER,
+    PROJECTION,
+    DRIFT_ROOF,
+];
+/// The two kinds of multi-span roofs.
+pub const SPANNED: [u8; 2] = [MULTI_SPAN, DRIFT_ROOF];
+pub const MAX_SPANS: usize = 16;
 pub const MAX_SHEET: usize = 16_384;
 pub const MAX_ITEMS: usize = 32;
 pub const MAX_PITCH: u32 = 800;
 pub const MAX_ALTITUDE: u32 = 1_500;
-/// The situation of a site whose ground load is given.
-pub const SITUATION: Field = SITE_FIELDS[4];
+pub const MAX_SITUATION: u32 = 3;
+/// The ground load of a site that has it given.
+pub const GROUND_LOAD: Field = SITE_FIELDS[0];
 /// Region, zone and altitude of a map site.
 pub const REGION: Field = MAP_SITE_FIELDS[0];
 pub const ZONE: Field = MAP_SITE_FIELDS[1];
@@ -65,12 +80,17 @@ const fn step(at: usize) -> Field {
     field(at, 4, 1, 30_000, &[300, 2_499, 2_500, 2_501, 7_500, 7_501])
 }
 
+/// The depth of a valley. The edges are 5 × sk/2 for usual ground loads, and beside it.
+const fn depth(at: usize) -> Field {
+    field(at, 4, 1, 30_000, &[250, 1_875, 2_499, 2_500, 2_501])
+}
+
 const SITE_FIELDS: [Field; 6] = [
     field(1, 4, 100, 25_000, &[1_000, 1_001, 1_500, 750]),
     field(5, 2, 80, 120, &[100]),
     field(7, 2, 1, 100, &[100, 99]),
     field(9, 2, 100, 300, &[200]),
-    field(11, 1, 0, 1, &[]),
+    field(11, 1, 0, MAX_SITUATION, &[]),
     field(12, 2, 0, MAX_ALTITUDE, &[800, 801]),
 ];
 /// The altitudes worth meeting are also the divisors of Table C.1.
@@ -80,7 +100,7 @@ const MAP_SITE_FIELDS: [Field; 7] = [
     field(3, 2, 80, 120, &[100]),
     field(5, 2, 1, 100, &[100, 99]),
     field(7, 2, 100, 300, &[200]),
-    field(9, 1, 0, 1, &[]),
+    field(9, 1, 0, MAX_SITUATION, &[]),
     field(
         10,
         2,
@@ -105,6 +125,7 @@ pub fn fields(item: &[u8]) -> Vec<Field> {
         Some(&MONOPITCH) => MONOPITCH_FIELDS.to_vec(),
         Some(&PITCHED) => PITCHED_FIELDS.to_vec(),
         Some(&MULTI_SPAN) => span_fields(item.len().saturating_sub(2) / 12),
+        Some(&DRIFT_ROOF) => drift_roof_fields((item.len() + 6) / 20),
         Some(&CYLINDRICAL) => ARCH_FIELDS.to_vec(),
         Some(&LOWER) => LOWER_FIELDS.to_vec(),
         Some(&PROJECTION) => PROJECTION_FIELDS.to_vec(),
@@ -119,6 +140,19 @@ fn span_fields(spans: usize) -> Vec<Field> {
         [pitch(at), pitch(at + 2), width(at + 4), width(at + 8)]
     };
     (0..spans).flat_map(span).collect()
+}
+
+/// The fields of the spans, then those of the valleys.
+fn drift_roof_fields(spans: usize) -> Vec<Field> {
+    let mut fields = span_fields(spans);
+    fields.extend((1..spans).flat_map(|valley| drift_fields(spans, valley)));
+    fields
+}
+
+/// Depth and length of a valley, numbered from 1.
+pub fn drift_fields(spans: usize, valley: usize) -> [Field; 2] {
+    let at = 2 + 12 * spans + 8 * (valley - 1);
+    [depth(at), width(at + 4)]
 }
 
 /// Writes a field where the item has it.
@@ -150,13 +184,13 @@ pub fn draw(random: &mut Random, field: Field) -> u32 {
 /// A sound item of a kind.
 pub fn item(random: &mut Random, kind: u8) -> Vec<u8> {
     match kind {
-        MULTI_SPAN => {
-            let spans = match random.below(4) {
+        MULTI_SPAN | DRIFT_ROOF => {
+            let count = match random.below(4) {
                 0 => 2,
-                1 => 16,
-                _ => random.between(2, 16),
+                1 => MAX_SPANS,
+                _ => 2 + random.below(MAX_SPANS - 1),
             };
-            multi_span(random, spans as usize)
+            spans(random, kind, count)
         }
         CYLINDRICAL => cylindrical(random),
         LOWER => lower(random),
@@ -219,13 +253,60 @@ pub fn altitude(item: &[u8]) -> Field {
     }
 }
 
-/// A multi-span roof whose valleys keep the rule.
-pub fn multi_span(random: &mut Random, spans: usize) -> Vec<u8> {
-    let mut item = vec![0; 2 + 12 * spans];
-    item[0] = MULTI_SPAN;
-    item[1] = spans as u8;
-    let mut item = filled(random, item);
-    for valley in 1..spans {
+/// The situation of a site of either kind.
+pub fn situation(item: &[u8]) -> Field {
+    match item.first() {
+        Some(&MAP_SITE) => MAP_SITE_FIELDS[5],
+        _ => SITE_FIELDS[4],
+    }
+}
+
+/// A site with a ground load given, in a situation.
+pub fn site_in(random: &mut Random, number: u32) -> Vec<u8> {
+    let mut item = item(random, SITE);
+    let field = situation(&item);
+    put(&mut item, field, number);
+    item
+}
+
+/// The site with Ce, Ct, Cesl and the altitude drawn anew, none of them as before.
+pub fn other_factors(random: &mut Random, site: &[u8]) -> Vec<u8> {
+    let mut item = site.to_vec();
+    for place in [1, 2, 3, 5] {
+        let field = SITE_FIELDS[place];
+        while get(&item, field) == get(site, field) {
+            let value = draw(random, field);
+            put(&mut item, field, value);
+        }
+    }
+    item
+}
+
+/// The bytes of a multi-span roof of either kind. No length fits kind 9 with a count of 0, which
+/// has two bytes here.
+pub fn spanned_length(kind: u8, count: usize) -> usize {
+    match kind {
+        MULTI_SPAN => 2 + 12 * count,
+        _ => (20 * count).saturating_sub(6).max(2),
+    }
+}
+
+fn blank_spans(kind: u8, count: usize) -> Vec<u8> {
+    let mut item = vec![0; spanned_length(kind, count)];
+    item[0] = kind;
+    item[1] = count as u8;
+    item
+}
+
+/// A multi-span roof of either kind with any count, its fields within their ranges.
+pub fn any_spans(random: &mut Random, kind: u8, count: usize) -> Vec<u8> {
+    filled(random, blank_spans(kind, count))
+}
+
+/// A multi-span roof of either kind whose valleys keep the rule.
+pub fn spans(random: &mut Random, kind: u8, count: usize) -> Vec<u8> {
+    let mut item = any_spans(random, kind, count);
+    for valley in 1..count {
         let (left, right) = valley_fields(valley);
         let pitches = [get(&item, left).min(600), get(&item, right).min(600)];
         put(&mut item, left, pitches[0].min(1_199 - pitches[1]));
@@ -239,10 +320,56 @@ pub fn valley_fields(valley: usize) -> (Field, Field) {
     (pitch(2 + 12 * valley - 10), pitch(2 + 12 * valley))
 }
 
-/// Roofs with one pitch in every place that has one, on the site with the heaviest snow.
+/// The widths of the two slopes at a valley together.
+fn widths_at(item: &[u8], valley: usize) -> u32 {
+    let at = 2 + 12 * valley;
+    get(item, width(at - 4)) + get(item, width(at + 4))
+}
+
+/// A roof with drifts, half of its valleys close to where two of the three limits are equal.
+pub fn drift_roof(random: &mut Random, count: usize, ground_load: u32) -> Vec<u8> {
+    let mut item = spans(random, DRIFT_ROOF, count);
+    for valley in 1..count {
+        if random.once_in(2) {
+            let figures = near_tie(random, widths_at(&item, valley), ground_load);
+            for (field, figure) in drift_fields(count, valley).into_iter().zip(figures) {
+                let figure = figure.clamp(field.low.into(), field.high.into());
+                put(&mut item, field, figure as u32);
+            }
+        }
+    }
+    item
+}
+
+/// Depth and length where 2h, 2 × b3 × sk/(ls1 + ls2) and 5 × sk meet, two of them, or beside it.
+fn near_tie(random: &mut Random, widths: u32, ground_load: u32) -> [i64; 2] {
+    let (widths, ground_load) = (i64::from(widths), i64::from(ground_load));
+    let beside = i64::from(random.between(0, 2)) - 1;
+    match random.below(3) {
+        0 => [5 * ground_load / 2 + beside, 100_000],
+        1 => [30_000, 5 * widths / 2 + beside],
+        _ => {
+            let length = i64::from(draw(random, width(0)));
+            [length * ground_load / widths + beside, length]
+        }
+    }
+}
+
+/// The roof of kind 4 with the spans of one with drifts.
+pub fn without_drifts(roof: &[u8]) -> Vec<u8> {
+    let mut item = roof.to_vec();
+    item.truncate(spanned_length(MULTI_SPAN, usize::from(roof[1])));
+    item[0] = MULTI_SPAN;
+    item
+}
+
+/// Roofs with one pitch in every place that has one, on the site with the heaviest snow and
+/// exceptional falls.
 pub fn pitch_items(pitch: u32) -> Vec<Vec<u8>> {
     let kinds = [SITE, MONOPITCH, MONOPITCH, PITCHED, LOWER];
     let mut items = kinds.map(|kind| highest(blank(kind))).to_vec();
+    let field = situation(&items[0]);
+    put(&mut items[0], field, 1);
     put(&mut items[1], MONOPITCH_FIELDS[0], pitch);
     put(&mut items[2], MONOPITCH_FIELDS[0], pitch);
     put(&mut items[2], MONOPITCH_FIELDS[1], 0);
@@ -250,12 +377,14 @@ pub fn pitch_items(pitch: u32) -> Vec<Vec<u8>> {
     put(&mut items[3], PITCHED_FIELDS[1], MAX_PITCH - pitch);
     put(&mut items[4], LOWER_FIELDS[4], pitch);
     put(&mut items[4], LOWER_FIELDS[5], pitch % 2);
-    // A valley takes 60.0° at most, beside a slope below that.
-    let mut spans = highest(vec![MULTI_SPAN, 2].into_iter().chain([0; 24]).collect());
     let (left, right) = valley_fields(1);
-    put(&mut spans, left, pitch.min(600));
-    put(&mut spans, right, pitch.saturating_sub(600));
-    items.push(spans);
+    for kind in SPANNED {
+        // A valley takes 60.0° at most, beside a slope below that.
+        let mut spans = highest(blank_spans(kind, 2));
+        put(&mut spans, left, pitch.min(600));
+        put(&mut spans, right, pitch.saturating_sub(600));
+        items.push(spans);
+    }
     items
 }
 
@@ -310,8 +439,9 @@ fn projection(random: &mut Random) -> Vec<u8> {
     item
 }
 
+/// A roof of any kind, twice as often one with drifts.
 pub fn roof(random: &mut Random) -> Vec<u8> {
-    let kind = random.between(2, 7) as u8;
+    let kind = *ROOFS.get(random.below(8)).unwrap_or(&DRIFT_ROOF);
     item(random, kind)
 }
 

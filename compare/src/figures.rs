@@ -1,16 +1,16 @@
 //! The figures that the calculation is held against.
 
-use crate::arrangement::{loaded_width, Arrangement};
+use crate::arrangement::{codes, loaded_width, Arrangement};
 use crate::forces;
 use crate::ground;
-use crate::sheet::{Item, Items, Roof, Site, Slope};
+use crate::sheet::{Item, Items, Roof, Site, Situation, Slope};
 
 const SITE: Site = Site {
     ground_load: 1_000,
     exposure: 100,
     thermal: 100,
     exceptional: 200,
-    has_exceptional_falls: false,
+    situation: Situation::Normal,
     altitude: 500,
 };
 
@@ -28,7 +28,8 @@ fn segments(site: &Site, roof: &Roof, code: u8) -> Vec<[u32; 4]> {
 
 /// A roof from its bytes, by way of a sheet.
 fn roof(bytes: &[u8]) -> Result<Roof, u8> {
-    let mut sheet = vec![2, 0, 10, 0, 14, 0, 24, 0, bytes.len() as u8, 0];
+    let mut sheet = vec![2, 0, 10, 0, 14, 0, 24, 0];
+    sheet.extend((bytes.len() as u16).to_le_bytes());
     sheet.extend([1, 0xE8, 3, 0, 0, 100, 0, 100, 0, 200, 0, 0, 0xF4, 1]);
     sheet.extend(bytes);
     let item = Items::of(&sheet).unwrap().nth(1).unwrap();
@@ -60,6 +61,26 @@ fn two_spans(left: u16, right: u16) -> Result<Roof, u8> {
         bytes.extend([4_000_u32, 4_000].into_iter().flat_map(u32::to_le_bytes));
     }
     roof(&bytes)
+}
+
+/// A roof of kind 9: widths of the slopes, all flat, then depth and length of each valley.
+fn drift_bytes(widths: &[[u32; 2]], valleys: &[[u32; 2]]) -> Vec<u8> {
+    let mut bytes = vec![9, widths.len() as u8];
+    for span in widths {
+        bytes.extend([0; 4]);
+        bytes.extend(span.iter().flat_map(|width| width.to_le_bytes()));
+    }
+    let figures = valleys.iter().flatten();
+    bytes.extend(figures.flat_map(|figure| figure.to_le_bytes()));
+    bytes
+}
+
+fn drift_roof(widths: &[[u32; 2]], valleys: &[[u32; 2]]) -> Roof {
+    roof(&drift_bytes(widths, valleys)).unwrap()
+}
+
+fn in_situation(situation: Situation) -> Site {
+    Site { situation, ..SITE }
 }
 
 #[test]
@@ -104,6 +125,175 @@ fn valleys() {
     assert_eq!(valley(600, 599), Ok(1_600));
     assert_eq!(valley(600, 600), Err(9));
     assert_eq!(valley(0, 601), Err(9));
+}
+
+/// Two spans with slopes of 4,000. With a ground load of 1,000 the length gives b3/4.
+#[test]
+fn drift_loads() {
+    let site = in_situation(Situation::Drifts);
+    let peak = |depth, length| {
+        let roof = drift_roof(&[[4_000; 2]; 2], &[[depth, length]]);
+        let made = segments(&site, &roof, 31);
+        let load = made[1][3];
+        let slopes = [[16_000, 32_000, 0, load], [32_000, 48_000, load, 0]];
+        assert_eq!(made[1..3], slopes);
+        assert_eq!(
+            [made[0], made[3]],
+            [[0, 16_000, 0, 0], [48_000, 64_000, 0, 0]]
+        );
+        load
+    };
+    assert_eq!(peak(1, 100_000), 2);
+    assert_eq!(peak(1_000, 40_000), 2_000);
+    assert_eq!([10_000, 10_001].map(|b3| peak(30_000, b3)), [2_500, 2_501]);
+    assert_eq!([1_250, 1_251].map(|h| peak(h, 10_001)), [2_500, 2_501]);
+    assert_eq!(
+        [2_499, 2_500, 2_501].map(|h| peak(h, 40_000)),
+        [4_998, 5_000, 5_000]
+    );
+    assert_eq!(
+        [19_999, 20_000, 20_001].map(|b3| peak(30_000, b3)),
+        [5_000; 3]
+    );
+    assert_eq!(peak(30_000, 19_996), 4_999);
+    assert_eq!(peak(30_000, 1), 1);
+}
+
+/// Each valley has the widths of the two slopes beside it: 2,000 + 5,000 and 1,000 + 7,000.
+#[test]
+fn drifts_in_their_valleys() {
+    let widths = [[3_000, 2_000], [5_000, 1_000], [7_000, 4_000]];
+    let roof = drift_roof(&widths, &[[9_000, 12_345], [1_500, 12_345]]);
+    let site = in_situation(Situation::FallsAndDrifts);
+    let first = [
+        [0, 12_000, 0, 0],
+        [12_000, 20_000, 0, 3_528],
+        [20_000, 40_000, 3_528, 0],
+        [40_000, 88_000, 0, 0],
+    ];
+    assert_eq!(segments(&site, &roof, 31), first);
+    let second = [
+        [0, 40_000, 0, 0],
+        [40_000, 44_000, 0, 3_000],
+        [44_000, 72_000, 3_000, 0],
+        [72_000, 88_000, 0, 0],
+    ];
+    assert_eq!(segments(&site, &roof, 32), second);
+    let made = Arrangement::of(&site, &roof, 31).unwrap();
+    let stations = [
+        0, 12_000, 12_001, 14_001, 20_000, 20_001, 39_999, 40_000, 88_000,
+    ];
+    let loads = [0, 0, 1, 883, 3_528, 3_528, 1, 0, 0];
+    assert_eq!(
+        stations.map(|station| made.reading(station)),
+        loads.map(Some)
+    );
+    assert_eq!(made.reading(88_001), None);
+}
+
+/// Ce, Ct, Cesl and the altitude leave a drift as it is.
+#[test]
+fn drifts_have_the_ground_load_alone() {
+    let roof = drift_roof(&[[4_000; 2]; 2], &[[30_000, 10_001]]);
+    let site = in_situation(Situation::Drifts);
+    let other = Site {
+        exposure: 80,
+        thermal: 50,
+        exceptional: 300,
+        altitude: 1_500,
+        ..site
+    };
+    assert_eq!(segments(&other, &roof, 31), segments(&site, &roof, 31));
+    assert_ne!(segments(&other, &roof, 1), segments(&site, &roof, 1));
+}
+
+/// A roof of each kind and its codes in situations 0 to 3, as document 02 gives them.
+fn code_table() -> [(Roof, [&'static [u8]; 4]); 7] {
+    let slope = Slope::default();
+    let arch = roof(&words(5, &[1_000, 4_000])).unwrap();
+    let projection = roof(&words(7, &[1_000, 4_000, 4_000])).unwrap();
+    let low = lower([10_000, 20_000, 3_000, 6_000], 100);
+    let drifts = drift_roof(&[[4_000; 2]; 4], &[[500, 2_000]; 3]);
+    let one: [&[u8]; 4] = [&[1], &[1, 11], &[1], &[1, 11]];
+    let two: [&[u8]; 4] = [&[1, 2], &[1, 2, 11, 12], &[1, 2], &[1, 2, 11]];
+    let three: [&[u8]; 4] = [
+        &[1, 2, 3],
+        &[1, 2, 3, 11, 12, 13],
+        &[1, 2, 3],
+        &[1, 2, 3, 11],
+    ];
+    let valleys: [&[u8]; 4] = [
+        &[1, 2],
+        &[1, 2, 11, 12],
+        &[1, 31, 32, 33],
+        &[1, 11, 31, 32, 33],
+    ];
+    [
+        (Roof::Monopitch(slope), one),
+        (Roof::Pitched([slope; 2]), three),
+        (two_spans(200, 100).unwrap(), two),
+        (arch, two),
+        (low, two),
+        (projection, [&[2]; 4]),
+        (drifts, valleys),
+    ]
+}
+
+#[test]
+fn codes_by_situation() {
+    use Situation::{Drifts, Falls, FallsAndDrifts, Normal};
+    for (roof, lists) in code_table() {
+        for (situation, list) in [Normal, Falls, Drifts, FallsAndDrifts]
+            .into_iter()
+            .zip(lists)
+        {
+            let site = in_situation(situation);
+            let listed: Vec<_> = codes(&site, &roof).collect();
+            assert_eq!(listed, list, "{situation:?} {roof:?}");
+            let made = |code: &u8| Arrangement::of(&site, &roof, *code).is_some();
+            assert!((0..=255).filter(made).eq(listed), "{situation:?} {roof:?}");
+        }
+    }
+}
+
+#[test]
+fn drift_fields() {
+    let refusal = |bytes: &[u8]| roof(bytes).err();
+    let with = |depth, length| refusal(&drift_bytes(&[[4_000; 2]; 2], &[[depth, length]]));
+    assert_eq!(
+        [with(0, 1), with(30_001, 1), with(1, 0), with(1, 100_001)],
+        [Some(8); 4]
+    );
+    assert_eq!([with(1, 1), with(30_000, 100_000)], [None; 2]);
+    let long = |spans: usize| refusal(&drift_bytes(&vec![[1; 2]; spans], &vec![[1; 2]; spans - 1]));
+    assert_eq!(
+        [1, 2, 16, 17, 255].map(long),
+        [Some(8), None, None, Some(8), Some(8)]
+    );
+    // A count of 0 fits no length, nor does a missing count byte.
+    assert_eq!(refusal(&[9]), Some(4));
+    for length in 2..40 {
+        let mut bytes = vec![0; length];
+        bytes[0] = 9;
+        assert_eq!(refusal(&bytes), Some(4));
+    }
+}
+
+/// Pitches at the only valley. A depth of 0 is refused before them.
+#[test]
+fn drift_valleys() {
+    let with = |left: u16, right: u16, depth| {
+        let mut bytes = drift_bytes(&[[4_000; 2]; 2], &[[depth, 5_000]]);
+        bytes[4..6].copy_from_slice(&left.to_le_bytes());
+        bytes[14..16].copy_from_slice(&right.to_le_bytes());
+        roof(&bytes).err()
+    };
+    assert_eq!([with(600, 599, 1), with(599, 600, 1)], [None; 2]);
+    assert_eq!(
+        [with(600, 600, 1), with(601, 0, 1), with(0, 601, 1)],
+        [Some(9); 3]
+    );
+    assert_eq!([with(600, 600, 0), with(801, 0, 1)], [Some(8); 2]);
 }
 
 #[test]

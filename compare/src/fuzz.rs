@@ -13,8 +13,9 @@ use crate::tally::{LENGTHS, MISSING};
 /// Items of one sheet that are asked about closely.
 const CLOSE: usize = 3;
 /// The codes of the rules, those beside them, and some that never exist.
-const CODES: [u8; 18] = [
-    0, 1, 2, 3, 4, 5, 6, 7, 8, 9, 10, 11, 12, 13, 14, 21, 128, 255,
+const CODES: [u8; 37] = [
+    0, 1, 2, 3, 4, 5, 6, 7, 8, 9, 10, 11, 12, 13, 14, 20, 21, 22, 30, 31, 32, 33, 34, 35, 36, 37,
+    38, 39, 40, 41, 42, 43, 44, 45, 46, 128, 255,
 ];
 const SLOPES: [u8; 5] = [0, 1, 2, 3, 255];
 /// Altitudes at the ends of their range and of 8 and 16 bits, with every region and every zone.
@@ -22,7 +23,7 @@ const ALTITUDES: [u16; 10] = [0, 1, 255, 256, 1_499, 1_500, 1_501, 1_502, 32_768
 
 pub struct Fuzz {
     pub checker: Checker,
-    random: Random,
+    pub random: Random,
     next_length: usize,
 }
 
@@ -99,7 +100,8 @@ impl Fuzz {
         if let Some(given) = given {
             items[0] = given;
             let other = draft::sheet(&mut self.random, &items);
-            self.checker.alike(&sheet, &other);
+            let alike = self.checker.alike(&sheet, &other, "the ground load given");
+            self.checker.tally.map.alike += u64::from(alike);
         }
     }
 
@@ -177,12 +179,13 @@ impl Fuzz {
         let code = self.random.byte();
         self.checker.make(asked, item, code, 128);
         // The codes that exist are met again with slices around the right length.
-        for code in [1, 2, 3, 11, 12, 13] {
+        let valleys: [u8; 3] = std::array::from_fn(|_| 31 + self.random.below(15) as u8);
+        for code in [1, 2, 3, 11, 12, 13].into_iter().chain(valleys) {
             self.arrangement_questions(asked, item, code);
         }
     }
 
-    fn arrangement_questions(&mut self, asked: Asked, item: usize, code: u8) {
+    pub fn arrangement_questions(&mut self, asked: Asked, item: usize, code: u8) {
         let numbers = self.checker.make(asked, item, code, 128);
         if numbers.is_empty() {
             let station = self.random.pick(&[0, 1, 4_000, u32::MAX]);
@@ -222,12 +225,11 @@ impl Fuzz {
     }
 }
 
-/// A sheet of the heaviest kind: 31 multi-span roofs of 16 spans in situation 1.
-pub fn heavy_sheet(random: &mut Random) -> Vec<u8> {
-    let mut items = vec![draft::item(random, draft::SITE)];
-    draft::put(&mut items[0], draft::SITUATION, 1);
+/// A sheet of the heaviest kind: 31 multi-span roofs of 16 spans.
+pub fn heavy_sheet(random: &mut Random, kind: u8, situation: u32) -> Vec<u8> {
+    let mut items = vec![draft::site_in(random, situation)];
     for _ in 1..draft::MAX_ITEMS {
-        items.push(draft::multi_span(random, 16));
+        items.push(draft::spans(random, kind, draft::MAX_SPANS));
     }
     draft::sheet(random, &items)
 }

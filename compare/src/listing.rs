@@ -5,7 +5,7 @@ use crate::forces;
 use crate::sheet::{Item, Items, Refusal, Roof, Site};
 
 /// A number of bytes that holds the listing of any sheet.
-pub const ROOM: usize = 275_557;
+pub const ROOM: usize = 267_373;
 
 const HEADER: &[u8] = b"ITEM ARR START END LOAD LOAD\n";
 const REFUSED: &[u8] = b"REFUSED";

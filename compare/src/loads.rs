@@ -1,6 +1,6 @@
 //! Shape coefficients as exact fractions, and the loads that they give.
 
-use crate::sheet::{LowerRoof, Site, Slope, SLIDING_PITCH};
+use crate::sheet::{LowerRoof, Site, Slope, Valley, SLIDING_PITCH};
 
 /// Denominator of the coefficients of Table 5.2 when the pitch is in tenths of a degree.
 const TABLE: u64 = 375;
@@ -113,6 +113,15 @@ pub fn mu_projection(height: u32, site: &Site) -> Shape {
         .at_least(Shape::EVEN)
 }
 
+/// μ1 of an exceptional drift in a valley between two slopes (B2): the least of 2h/sk,
+/// 2 × b3/(ls1 + ls2) and 5.
+pub fn mu_drift(valley: Valley, left: Slope, right: Slope, site: &Site) -> Shape {
+    let widths = u64::from(left.width) + u64::from(right.width);
+    mu_full_step(valley.depth, site)
+        .at_most(Shape::new(2 * u64::from(valley.length), widths))
+        .at_most(Shape::new(5, 1))
+}
+
 /// All that a load has beside μ, as a fraction.
 ///
 /// The largest product is that of μs: 300 × 100,000 × 120 × 100 × 25,000 × 300 is below 2^63.
@@ -138,6 +147,14 @@ impl Fall {
         Self {
             weight: persistent.weight * u64::from(site.exceptional),
             scale: persistent.scale * 100,
+        }
+    }
+
+    /// The ground load alone, for exceptional drifts (5.3): no Ce, no Ct, no Cesl.
+    pub fn drift(site: &Site) -> Self {
+        Self {
+            weight: u64::from(site.ground_load),
+            scale: 1,
         }
     }
 

@@ -5,6 +5,7 @@
 mod check;
 mod damage;
 mod draft;
+mod drifts;
 mod ffi;
 mod fuzz;
 mod measure;
@@ -30,6 +31,9 @@ fn main() -> ExitCode {
     let mut fuzz = fuzz::Fuzz::new(seed);
     fuzz.sweep();
     fuzz.sweep_map();
+    fuzz.sweep_codes();
+    fuzz.sweep_refused();
+    fuzz.sweep_drifts();
     fuzz.run(sheets);
     let tally = &fuzz.checker.tally;
     tally.print();

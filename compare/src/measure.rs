@@ -6,6 +6,7 @@ use std::time::Instant;
 use second::calls::{self, LIST_ROOM};
 use second::listing;
 
+use crate::draft::{DRIFT_ROOF, MULTI_SPAN};
 use crate::ffi;
 use crate::fuzz::heavy_sheet;
 use crate::random::Random;
@@ -22,20 +23,33 @@ struct Times {
 
 pub fn print(seed: u64) {
     let mut random = Random::new(seed);
-    let sheets: Vec<_> = (0..SHEETS).map(|_| heavy_sheet(&mut random)).collect();
-    let lines: usize = sheets.iter().map(|sheet| lines(sheet)).sum();
+    let sheets = heavy_sheets(&mut random, MULTI_SPAN, 1);
     println!(
         "TIMES {SHEETS} sheets of 31 roofs with 16 spans, {} lines a listing, best of {BATCHES} batches",
-        lines / SHEETS
+        lines(&sheets)
     );
     listing_times(&sheets).print("listing");
     verdict_times(&sheets).print("verdict");
     make_times(&sheets).print("making");
+    for situation in [3, 1] {
+        let sheets = heavy_sheets(&mut random, DRIFT_ROOF, situation);
+        println!(
+            "TIMES {SHEETS} sheets of 31 roofs of kind 9 with 16 spans, situation {situation}, {} lines a listing",
+            lines(&sheets)
+        );
+        listing_times(&sheets).print("listing");
+    }
 }
 
-fn lines(sheet: &[u8]) -> usize {
+fn heavy_sheets(random: &mut Random, kind: u8, situation: u32) -> Vec<Vec<u8>> {
+    let sheets = (0..SHEETS).map(|_| heavy_sheet(random, kind, situation));
+    sheets.collect()
+}
+
+/// Lines of one listing, all sheets having the same number.
+fn lines(sheets: &[Vec<u8>]) -> usize {
     let mut text = Vec::new();
-    listing::list(sheet, &mut text);
+    listing::list(&sheets[0], &mut text);
     text.iter().filter(|&&byte| byte == b'\n').count()
 }
 

@@ -12,6 +12,8 @@ pub const MAX_ITEMS: usize = 32;
 pub const MAX_SPANS: usize = 16;
 /// Slopes of the longest multi-span roof.
 pub const MAX_SLOPES: usize = 2 * MAX_SPANS;
+/// Valleys of the longest multi-span roof, one between each span and the next.
+pub const MAX_VALLEYS: usize = MAX_SPANS - 1;
 /// 60.0 degrees, where snow no longer stays on a slope.
 pub const SLIDING_PITCH: u16 = 600;
 
@@ -56,6 +58,35 @@ impl Refusal {
     }
 }
 
+/// A case of Annex A. Each is the number of the situation.
+#[derive(Clone, Copy, Debug, PartialEq, Eq)]
+pub enum Situation {
+    /// Case A: nothing exceptional.
+    Normal = 0,
+    /// Case B1: exceptional falls.
+    Falls = 1,
+    /// Case B2: exceptional drifts.
+    Drifts = 2,
+    /// Case B3: exceptional falls and exceptional drifts.
+    FallsAndDrifts = 3,
+}
+
+impl Situation {
+    fn of(number: u8) -> Option<Self> {
+        let cases = [
+            Self::Normal,
+            Self::Falls,
+            Self::Drifts,
+            Self::FallsAndDrifts,
+        ];
+        cases.get(usize::from(number)).copied()
+    }
+
+    pub fn has_drifts(self) -> bool {
+        matches!(self, Self::Drifts | Self::FallsAndDrifts)
+    }
+}
+
 /// The ground load and its coefficients, in N/m² and hundredths.
 #[derive(Clone, Copy, Debug)]
 pub struct Site {
@@ -63,8 +94,7 @@ pub struct Site {
     pub exposure: u16,
     pub thermal: u16,
     pub exceptional: u16,
-    /// Situation 1: exceptional falls are to be looked at (Annex A, cases A and B1).
-    pub has_exceptional_falls: bool,
+    pub situation: Situation,
     pub altitude: u16,
 }
 
@@ -87,6 +117,42 @@ impl MultiSpan {
     pub fn slopes(&self) -> &[Slope] {
         &self.slopes[..self.count]
     }
+
+    fn valley_count(&self) -> usize {
+        self.count / 2 - 1
+    }
+
+    /// The two slopes at each valley.
+    fn valley_slopes(&self) -> impl Iterator<Item = &[Slope]> {
+        self.slopes[1..self.count - 1].chunks_exact(2)
+    }
+}
+
+/// A valley as Annex B sees it, in mm.
+#[derive(Clone, Copy, Debug, Default)]
+pub struct Valley {
+    /// h
+    pub depth: u32,
+    /// b3
+    pub length: u32,
+}
+
+/// A multi-span roof whose valleys are designed by Annex B.
+#[derive(Clone, Copy, Debug)]
+pub struct DriftRoof {
+    spans: MultiSpan,
+    valleys: [Valley; MAX_VALLEYS],
+}
+
+impl DriftRoof {
+    pub fn slopes(&self) -> &[Slope] {
+        self.spans.slopes()
+    }
+
+    /// The valleys from left to right.
+    pub fn valleys(&self) -> &[Valley] {
+        &self.valleys[..self.spans.valley_count()]
+    }
 }
 
 /// A lower flat roof with the wall of a taller one at its left end.
@@ -105,6 +171,7 @@ pub enum Roof {
     Monopitch(Slope),
     Pitched([Slope; 2]),
     MultiSpan(MultiSpan),
+    Drift(DriftRoof),
     Cylindrical { rise: u32, span: u32 },
     Lower(LowerRoof),
     Projection { height: u32, left: u32, right: u32 },
@@ -202,7 +269,8 @@ fn decode(bytes: &[u8], is_first: bool) -> Result<Item, u8> {
         5 => cylindrical(fields).map(Item::Roof),
         6 => lower(fields).map(Item::Roof),
         7 => projection(fields).map(Item::Roof),
-        _ => map_site(fields).map(Item::Site),
+        8 => map_site(fields).map(Item::Site),
+        _ => drift_roof(fields).map(Item::Roof),
     }
 }
 
@@ -213,15 +281,18 @@ fn is_site(kind: u8) -> bool {
 
 /// The length that an item of this kind has. A multi-span roof says so in its count byte.
 fn length_of(kind: u8, rest: &[u8]) -> Result<usize, u8> {
+    let spans = || rest.first().copied().map(usize::from).ok_or(number::LENGTH);
     Ok(match kind {
         1 => 14,
         2 => 8,
         3 => 15,
-        4 => 2 + 12 * usize::from(*rest.first().ok_or(number::LENGTH)?),
+        4 => 2 + 12 * spans()?,
         5 => 9,
         6 => 20,
         7 => 13,
         8 => 12,
+        // No length fits a count of 0.
+        9 => (20 * spans()?).checked_sub(6).ok_or(number::LENGTH)?,
         _ => return Err(number::KIND),
     })
 }
@@ -297,7 +368,7 @@ fn site_with(ground_load: u32, fields: &mut Fields) -> Result<Site, u8> {
         exposure: within(fields.u16(), 80..=120, number::SITE_FIELD)?,
         thermal: within(fields.u16(), 1..=100, number::SITE_FIELD)?,
         exceptional: within(fields.u16(), 100..=300, number::SITE_FIELD)?,
-        has_exceptional_falls: within(fields.u8(), 0..=1, number::SITE_FIELD)? == 1,
+        situation: Situation::of(fields.u8()).ok_or(number::SITE_FIELD)?,
         altitude: within(fields.u16(), ALTITUDES, number::ALTITUDE)?,
     })
 }
@@ -321,8 +392,26 @@ fn pitched(mut fields: Fields) -> Result<Roof, u8> {
     })))
 }
 
-/// The fields of all spans come first (8), then the valleys (9).
+/// Every field comes first (8), then the pitches at the valleys (9).
 fn multi_span(mut fields: Fields) -> Result<Roof, u8> {
+    let spans = spans(&mut fields)?;
+    check_pitches(&spans)?;
+    Ok(Roof::MultiSpan(spans))
+}
+
+/// The same, with a depth and a length for each valley behind the spans.
+fn drift_roof(mut fields: Fields) -> Result<Roof, u8> {
+    let spans = spans(&mut fields)?;
+    let mut valleys = [Valley::default(); MAX_VALLEYS];
+    for valley in &mut valleys[..spans.valley_count()] {
+        valley.depth = fields.step()?;
+        valley.length = fields.width()?;
+    }
+    check_pitches(&spans)?;
+    Ok(Roof::Drift(DriftRoof { spans, valleys }))
+}
+
+fn spans(fields: &mut Fields) -> Result<MultiSpan, u8> {
     let spans = usize::from(within(fields.u8(), 2..=16, number::ROOF_FIELD)?);
     let mut slopes = [Slope::default(); MAX_SLOPES];
     for span in slopes[..2 * spans].chunks_exact_mut(2) {
@@ -331,12 +420,15 @@ fn multi_span(mut fields: Fields) -> Result<Roof, u8> {
         span[0].width = fields.width()?;
         span[1].width = fields.width()?;
     }
-    let inner = &slopes[1..2 * spans - 1];
-    if inner.chunks_exact(2).any(sheds_into_valley) {
+    let count = 2 * spans;
+    Ok(MultiSpan { slopes, count })
+}
+
+fn check_pitches(spans: &MultiSpan) -> Result<(), u8> {
+    if spans.valley_slopes().any(sheds_into_valley) {
         return Err(number::VALLEY);
     }
-    let count = 2 * spans;
-    Ok(Roof::MultiSpan(MultiSpan { slopes, count }))
+    Ok(())
 }
 
 /// A valley between such slopes has no mean pitch in Table 5.2 (5.3.4).

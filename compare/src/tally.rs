@@ -37,6 +37,10 @@ pub const MISSING: [usize; 14] = [
 const MAP_PLACES: u64 = 8 * 5 * 1_501;
 /// Refusals of a ground load.
 const MAP_REFUSALS: [usize; 3] = [7, 14, 15];
+/// Valleys of the roofs with 2 to 16 spans, in situations 2 and 3: every run asks for each, as
+/// often as there are rounds.
+const VALLEYS: u64 = 120 * 2;
+pub const DRIFT_ROUNDS: u64 = 24;
 /// Disagreements that are written out.
 const SHOWN: u64 = 5;
 
@@ -56,6 +60,8 @@ pub struct Tally {
     pub accepted_sheets: u64,
     /// Accepted ones with a map site.
     pub map_sheets: u64,
+    /// Accepted ones by situation.
+    pub situations: [u64; 4],
     calls: [u64; CALLS.len()],
     answered: u64,
     none: u64,
@@ -68,6 +74,7 @@ pub struct Tally {
     /// How often each missing index was refused by 12.
     missing: [u64; MISSING.len()],
     pub map: MapTally,
+    pub drifts: DriftTally,
     disagreements: u64,
 }
 
@@ -112,12 +119,51 @@ impl MapTally {
     }
 }
 
+/// What was asked about exceptional drifts.
+#[derive(Default)]
+pub struct DriftTally {
+    /// Segments of a drift, or loads at a station of one, on any sheet.
+    answered: u64,
+    /// Valleys whose drift was made and asked about closely.
+    pub valleys: u64,
+    /// Drifts that other coefficients left as they were.
+    pub alike: u64,
+    /// Listings in situations 0 and 1 that are those of the roof of kind 4.
+    pub plain: u64,
+    /// How often the load was 2h, 5 × sk, or what the length gives.
+    pub limits: [u64; 3],
+}
+
+impl DriftTally {
+    pub fn answer(&mut self, code: u8, answer: u32) {
+        self.answered += u64::from(code > 30 && answer < REFUSED);
+    }
+
+    fn is_good(&self) -> bool {
+        self.valleys == VALLEYS * DRIFT_ROUNDS
+            && self.alike == self.valleys
+            && self.plain > 0
+            && self.limits.iter().all(|&count| count > 0)
+    }
+
+    fn print(&self) {
+        println!(
+            "DRIFTS {} of valleys in turn, {} alike under other coefficients, {} listings alike with kind 4",
+            self.valleys, self.alike, self.plain
+        );
+        let [depth, ground, length] = self.limits;
+        println!("  limited by depth {depth}, by ground load {ground}, by length {length}");
+        println!("  answered {}", self.answered);
+    }
+}
+
 impl Tally {
     pub fn new() -> Self {
         Self {
             sheets: 0,
             accepted_sheets: 0,
             map_sheets: 0,
+            situations: [0; 4],
             calls: [0; CALLS.len()],
             answered: 0,
             none: 0,
@@ -126,6 +172,7 @@ impl Tally {
             lengths: [(0, 0); LENGTHS],
             missing: [0; MISSING.len()],
             map: MapTally::default(),
+            drifts: DriftTally::default(),
             disagreements: 0,
         }
     }
@@ -177,8 +224,8 @@ impl Tally {
         self.calls.iter().sum()
     }
 
-    /// No disagreement, and every refusal, every slice length, every missing index and every place
-    /// of the map was met.
+    /// No disagreement, and every refusal, every slice length, every missing index, every place of
+    /// the map, every situation and every valley was met.
     pub fn is_good(&self) -> bool {
         self.agrees()
             && self.refused[1..].iter().all(|&count| count > 0)
@@ -187,6 +234,8 @@ impl Tally {
             && self.missing.iter().all(|&count| count > 0)
             && self.map_sheets > 0
             && self.map.is_good()
+            && self.situations.iter().all(|&count| count > 0)
+            && self.drifts.is_good()
     }
 
     pub fn print(&self) {
@@ -196,6 +245,9 @@ impl Tally {
             self.sheets,
             self.sheets - accepted
         );
+        for (number, count) in self.situations.iter().enumerate() {
+            println!("  situation {number} {count}");
+        }
         println!("COMPARISONS {}", self.comparisons());
         for (name, count) in CALLS.iter().zip(self.calls) {
             println!("  {name} {count}");
@@ -211,6 +263,7 @@ impl Tally {
             println!("  {number} {}", self.refused[number]);
         }
         self.map.print();
+        self.drifts.print();
         self.print_lengths();
         self.print_missing();
         println!("DISAGREEMENTS {}", self.disagreements);

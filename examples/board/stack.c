@@ -1,5 +1,6 @@
-/* Prints how much stack each call takes at most, over the sheets that are named as arguments and the heaviest sheet there is:
-   31 multi-span roofs of 16 spans in situation 1. Each call runs on a stack of its own that is painted before. */
+/* Prints how much stack each call takes at most, over the sheets that are named as arguments and the heaviest sheets there
+   are: 31 multi-span roofs of 16 spans, of kind 4 in situation 1 and of kind 9 in situations 1 and 3. Each call runs on a
+   stack of its own that is painted before. */
 #include <pthread.h>
 #include <stdint.h>
 #include <stdio.h>
@@ -66,7 +67,7 @@ static void measure(struct job job)
 
 static void measure_sheet(void)
 {
-    const uint8_t codes[] = {1, 2, 3, 11, 12, 13, 255};
+    const uint8_t codes[] = {1, 2, 3, 11, 12, 13, 31, 45, 255};
     uint32_t items = snow_verdict(sheet, length);
     if (SNOW_IS_REFUSAL(items))
         items = 1;
@@ -100,9 +101,38 @@ static void put(size_t at, uint32_t value, int bytes)
         sheet[at + (size_t)i] = (unsigned char)(value >> (8 * i));
 }
 
-static void heaviest(void)
+static void heavy_site(size_t at, uint8_t situation)
 {
-    const size_t roof = 2 + 12 * 16;
+    sheet[at] = 1;
+    put(at + 1, 24999, 4);
+    put(at + 5, 119, 2);
+    put(at + 7, 99, 2);
+    put(at + 9, 299, 2);
+    sheet[at + 11] = situation;
+    put(at + 12, 1500, 2);
+}
+
+/* 16 spans; on a roof of kind 9 then a depth and a length for each valley. */
+static void heavy_roof(size_t at, uint8_t kind)
+{
+    sheet[at] = kind;
+    sheet[at + 1] = 16;
+    for (size_t k = 0; k < 16; k++) {
+        put(at + 2 + 12 * k, 300 + (uint32_t)k, 2);
+        put(at + 4 + 12 * k, 250 + (uint32_t)k, 2);
+        put(at + 6 + 12 * k, 99999, 4);
+        put(at + 10 + 12 * k, 100000, 4);
+    }
+    for (size_t valley = 0; kind == 9 && valley < 15; valley++) {
+        put(at + 194 + 8 * valley, 29999, 4);
+        put(at + 198 + 8 * valley, 99999 - (uint32_t)valley, 4);
+    }
+}
+
+/* Puts together the heaviest sheet of a kind. */
+static void heaviest(uint8_t kind, uint8_t situation)
+{
+    const size_t roof = kind == 9 ? 20 * 16 - 6 : 2 + 12 * 16;
     size_t at = 2 + 4 * 32;
     memset(sheet, 0, sizeof sheet);
     put(0, 32, 2);
@@ -110,24 +140,10 @@ static void heaviest(void)
         size_t bytes = i == 0 ? 14 : roof;
         put(2 + 4 * i, (uint32_t)at, 2);
         put(4 + 4 * i, (uint32_t)bytes, 2);
-        if (i == 0) {
-            sheet[at] = 1;
-            put(at + 1, 24999, 4);
-            put(at + 5, 119, 2);
-            put(at + 7, 99, 2);
-            put(at + 9, 299, 2);
-            sheet[at + 11] = 1;
-            put(at + 12, 1500, 2);
-        } else {
-            sheet[at] = 4;
-            sheet[at + 1] = 16;
-            for (size_t k = 0; k < 16; k++) {
-                put(at + 2 + 12 * k, 300 + (uint32_t)k, 2);
-                put(at + 4 + 12 * k, 250 + (uint32_t)k, 2);
-                put(at + 6 + 12 * k, 99999, 4);
-                put(at + 10 + 12 * k, 100000, 4);
-            }
-        }
+        if (i == 0)
+            heavy_site(at, situation);
+        else
+            heavy_roof(at, kind);
         at += bytes;
     }
     length = at;
@@ -145,7 +161,11 @@ int main(int count, char **names_of_sheets)
         fclose(file);
         measure_sheet();
     }
-    heaviest();
+    heaviest(4, 1);
+    measure_sheet();
+    heaviest(9, 1);
+    measure_sheet();
+    heaviest(9, 3);
     measure_sheet();
     measure_map();
     for (int call = 1; call < CALLS; call++)

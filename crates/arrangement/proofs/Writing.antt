@@ -1,14 +1,23 @@
 -- Four numbers at a place of a slice, and one segment more at the end of those written.
-use Prim.Native.Nat.{ℕ, zero, suc, _+_, _*_, _≤_}
+use Prim.Native.Nat.{ℕ, zero, suc, _+_, _*_, _≤_, _<_}
 use mathlib.Core.Path.{_≡_, refl, _∙_}
 use mathlib.Core.List.{List, [], _∷_, _++_}
 use lib.ListN.{length, set, take, drop, length-append}
 use lib.Seq.{sets-eq, take-at, drop-append-add, drop-drop}
 use native.Mathlib.Numerals.{add-one}
 use native.Mathlib.Omega.{arith}
+use Rattle.figures.specs.RoofRules.{roofOf}
+use Rattle.figures.specs.declared.site.Site.{Site}
+use Rattle.figures.specs.declared.roof.Shape.{Shape}
+use Rattle.segments.proofs.Starts.{start-most}
 use Rattle.ramps.specs.Ramps.{rampOf, readRamp}
 use Rattle.ramps.specs.declared.Ramp.{Ramp}
+use Rattle.standard.specs.Arrangements.{factorOf, countIn, stretchIn, count, stretch}
+use Rattle.standard.specs.Bounds.{FiguresIn}
+use Rattle.standard.specs.Codes.{baseCode}
 use Rattle.standard.specs.Stretch.{Stretch, readIn, startOf, segment, segments}
+use Rattle.standard.specs.Units.{largestPosition}
+use Rattle.standard.specs.declared.National.{National}
 
 pub four :
     (l : List ℕ) (i a b c d : ℕ) → i + 4 ≤ length l
@@ -48,3 +57,20 @@ module _ (S : ℕ → Stretch) where
     pub segment-is : (a b : ℕ) → a ≡ readRamp r 0 → b ≡ readRamp r (r .extent) → start ∷ (start + r .extent) ∷ a ∷ b ∷ [] ≡ segment S i
     unfolding segment readIn readRamp rampOf
     segment-is a b p q = rw (p, q, es, er)
+
+-- the stretches of an arrangement, by its persistent code and its factor
+module _ (national : National) (site : Site) (shape : Shape) (spans : List ℕ) (code base factor n : ℕ)
+    (b : base ≡ baseCode code) (f : factor ≡ factorOf site code) where
+  pub arranged : segments (stretchIn national shape spans factor (site .sk) base) n ≡ segments (stretch national site (roofOf shape spans) code) n
+  unfolding stretch
+  arranged = rw (b, f)
+
+  module _ (i : ℕ) (c : n ≡ count national (roofOf shape spans) code) (lt : i < n) where
+    pub arranged-index : i < countIn national shape base
+    unfolding count
+    arranged-index = rw b (omega (arith, c, lt))
+
+    pub arranged-end :
+        FiguresIn national site (roofOf shape spans) → startOf (stretchIn national shape spans factor (site .sk) base) (suc i) ≤ largestPosition
+    unfolding stretch
+    arranged-end h = rw (b, f) (start-most national site (roofOf shape spans) code h (suc i) _ (omega (arith, c, lt)) refl)

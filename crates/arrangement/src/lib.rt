@@ -4,14 +4,17 @@ ghost use mathlib.Core.Path.{_≡_};
 ghost use lib.ListN.{length, take, drop};
 ghost use Prim.Native.Nat.{suc, _+_, _*_, _≤_, _<_};
 ghost use Rattle.arrangement.specs.Arrangement.{madeMeans, madeCount, contents, numbers};
+ghost use Rattle.figures.specs.Bounds.{ShapeIn};
 ghost use Rattle.figures.specs.RoofRules.{roofOf};
+ghost use Rattle.loads.specs.Sizes.{Ground};
 ghost use Rattle.standard.specs.Answers.{roomAnswer, makeAnswer};
-ghost use Rattle.standard.specs.Arrangements.{count, stretch};
-ghost use Rattle.standard.specs.Bounds.{FiguresIn};
+ghost use Rattle.standard.specs.Arrangements.{countIn, stretchIn, count, stretch};
+ghost use Rattle.standard.specs.Bounds.{NationalIn, FiguresIn};
 ghost use Rattle.standard.specs.Coefficients.{recommendedFigures};
 ghost use Rattle.standard.specs.Stretch.{startOf, segment, segments};
+ghost use Rattle.standard.specs.Units.{largestPosition};
 use figures::Roof;
-use figures::SLOPE_NUMBERS;
+use figures::SPAN_NUMBERS;
 use figures::Shape;
 use figures::Site;
 use standard::National;
@@ -33,20 +36,22 @@ pub struct Segment {
     pub to: u32,
 }
 
-// The segment at an index, which starts where the one before ends.
+// The segment at an index of a persistent code under a factor, which starts where the one before ends.
 fn segment_at(
     national: National,
-    site: Site,
     shape: Shape,
-    slopes: &[u32; SLOPE_NUMBERS],
+    spans: &[u32; SPAN_NUMBERS],
     code: u8,
+    factor: u64,
+    sk: u64,
     i: usize,
     start: u32,
 ) -> Segment
-    requires { ⌜ FiguresIn national site (roofOf shape (now slopes)) × (i < count national (roofOf shape (now slopes)) code) × (start ≡ startOf (stretch national site (roofOf shape (now slopes)) code) i) ⌝ }
-    ensures { λ r. ⌜ (numbers r ≡ segment (stretch national site (roofOf shape (now (slopes .entry))) code) i) × (r .end ≡ startOf (stretch national site (roofOf shape (now (slopes .entry))) code) (suc i)) ⌝ }
+    requires { ⌜ NationalIn national × ShapeIn shape (now spans) × Ground factor sk × (i < countIn national shape code) ⌝ }
+    requires { ⌜ (start ≡ startOf (stretchIn national shape (now spans) factor sk code) i) × (startOf (stretchIn national shape (now spans) factor sk code) (suc i) ≤ largestPosition) ⌝ }
+    ensures { λ r. ⌜ (numbers r ≡ segment (stretchIn national shape (now (spans .entry)) factor sk code) i) × (r .end ≡ startOf (stretchIn national shape (now (spans .entry)) factor sk code) (suc i)) ⌝ }
 {
-    let ramp = segments::ramp_at(national, site, shape, slopes, code, i);
+    let ramp = segments::ramp_in(national, shape, spans, code, factor, sk, i);
     let from = segments::reading_in(ramp, 0);
     let to = segments::reading_in(ramp, ramp.extent);
     Segment {
@@ -73,18 +78,22 @@ pub fn write(
     national: National,
     site: Site,
     shape: Shape,
-    slopes: &[u32; SLOPE_NUMBERS],
+    spans: &[u32; SPAN_NUMBERS],
     code: u8,
     n: usize,
     out: &mut [u32],
 )
-    requires { ⌜ FiguresIn national site (roofOf shape (now slopes)) × (n ≡ count national (roofOf shape (now slopes)) code) × (4 * n ≤ length (now out)) ⌝ }
-    ensures { λ _. ⌜ now (out .exit) ≡ segments (stretch national site (roofOf shape (now (slopes .entry))) code) n ++ drop (4 * n) (now (out .entry)) ⌝ }
+    requires { ⌜ FiguresIn national site (roofOf shape (now spans)) × (n ≡ count national (roofOf shape (now spans)) code) × (4 * n ≤ length (now out)) ⌝ }
+    ensures { λ _. ⌜ now (out .exit) ≡ segments (stretch national site (roofOf shape (now (spans .entry))) code) n ++ drop (4 * n) (now (out .entry)) ⌝ }
 {
+    // The factor is the same for every segment.
+    let base = codes::base_code(code);
+    let factor = codes::factor(site, code);
+    let sk = site.sk as u64;
     let mut start: u32 = 0;
     let mut i = 0;
     while i < n {
-        let segment = segment_at(national, site, shape, slopes, code, i, start);
+        let segment = segment_at(national, shape, spans, base, factor, sk, i, start);
         put(out, 4 * i, segment);
         start = segment.end;
         i += 1;
@@ -100,12 +109,12 @@ fn make_accepted(site: Site, roof: Roof, code: u8, out: &mut [u32]) -> Made
 {
     let national = standard::recommended();
     let shape = roof.shape;
-    let slopes = roof.slopes;
-    let n = segments::count(national, site, shape, &slopes, code);
+    let spans = roof.spans;
+    let n = segments::count(national, site, shape, &spans, code);
     if out.len() < 4 * n {
         return Made::Refused(SLICE);
     }
-    write(national, site, shape, &slopes, code, n, out);
+    write(national, site, shape, &spans, code, n, out);
     Made::Segments(n)
 }
 

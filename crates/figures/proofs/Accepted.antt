@@ -1,5 +1,5 @@
 -- Accepted figures keep their bounds.
-use Prim.Native.Nat.{ℕ, zero, suc, _*_, _<_}
+use Prim.Native.Nat.{ℕ, zero, suc, _*_, _≤_, _<_}
 use mathlib.Core.Path.{_≡_}
 use mathlib.Core.Bool.{Bool, true, not, _&&_}
 use mathlib.Core.List.{List}
@@ -12,7 +12,7 @@ use Rattle.figures.specs.Bounds.{Within, SiteIn, SlopeIn, ShapeIn}
 use Rattle.figures.specs.Ranges.{within}
 use Rattle.figures.specs.Rules.{refusedIf}
 use Rattle.figures.specs.SiteRules.{groundField, otherFields, siteFields, siteRefusal}
-use Rattle.figures.specs.RoofRules.{slopeOf, slopeFields, slopesFields, shapeRefusal}
+use Rattle.figures.specs.RoofRules.{spanCount, slopeOf, slopeFields, slopesFields, spanFields, shapeRefusal}
 use Rattle.figures.specs.declared.site.Site.{Site}
 use Rattle.figures.specs.declared.roof.Slope.{Slope}
 use Rattle.figures.specs.declared.roof.Shape.{Shape}
@@ -35,7 +35,7 @@ site-in s h =
     let a = kept (ltb 1500 (s .altitude)) 7 (omega arith) (p .1) in
     let f = sound (siteFields s) 6 (omega arith) (p .0) in
     let f₃ = both (groundField (s .sk)) (otherFields (s .ce) (s .ct) (s .cesl) (s .situation)) f in
-    let f₂ = both (within 80 120 (s .ce) && within 1 100 (s .ct) && within 100 300 (s .cesl)) (leb (s .situation) 1) (f₃ .1) in
+    let f₂ = both (within 80 120 (s .ce) && within 1 100 (s .ct) && within 100 300 (s .cesl)) (leb (s .situation) 3) (f₃ .1) in
     let f₁ = both (within 80 120 (s .ce) && within 1 100 (s .ct)) (within 100 300 (s .cesl)) (f₂ .0) in
     let f₀ = both (within 80 120 (s .ce)) (within 1 100 (s .ct)) (f₁ .0) in
     record {
@@ -43,7 +43,7 @@ site-in s h =
       ce = range 80 120 (s .ce) (f₀ .0);
       ct = range 1 100 (s .ct) (f₀ .1);
       cesl = range 100 300 (s .cesl) (f₁ .1);
-      situation = leb-true (s .situation) 1 (f₂ .1);
+      situation = leb-true (s .situation) 3 (f₂ .1);
       altitude = ltb-false 1500 (s .altitude) a;
     }
 
@@ -73,9 +73,9 @@ shape-in (Pitched left right leftGuard rightGuard) l h =
     let q = both (slopeFields left && slopeFields right) (leb leftGuard 1) (p .0) in
     let r = both (slopeFields left) (slopeFields right) (q .0) in
     record { left = slope-in left (r .0); right = slope-in right (r .1); left-guard = leb-true leftGuard 1 (q .1); right-guard = leb-true rightGuard 1 (p .1) }
-shape-in (MultiSpan count) l h =
-    let p = both (within 2 16 count) (slopesFields l (2 * count)) (sound _ 8 (omega arith) (none-broken _ _ h .0)) in
-    record { count = range 2 16 count (p .0); slopes = each-slope l (2 * count) (p .1) }
+shape-in (MultiSpan count drifts) l h =
+    let p = both (within 2 16 count) (spanFields drifts l count) (sound _ 8 (omega arith) (none-broken _ _ h .0)) in
+    record { count = range 2 16 count (p .0); spans = each-slope l (2 * count) (both (slopesFields l (2 * count)) _ (p .1) .0) }
 shape-in (Cylindrical rise span) l h =
     let b = none-broken _ _ h in
     let p = both (within 1 15000 rise) (within 2 30000 span) (sound _ 8 (omega arith) (b .0)) in
@@ -96,3 +96,12 @@ shape-in (Projection h left right) l e =
     let p = both (within 1 30000 h && within 1 100000 left) (within 1 100000 right) (sound _ 8 (omega arith) e) in
     let q = both (within 1 30000 h) (within 1 100000 left) (p .0) in
     record { height = range 1 30000 h (q .0); left = range 1 100000 left (q .1); right = range 1 100000 right (p .1) }
+
+-- no roof has more than 16 spans
+pub few-spans : (sh : Shape) (l : List ℕ) → ShapeIn sh l → spanCount sh ≤ 16
+few-spans (Monopitch slope guard) l f = omega arith
+few-spans (Pitched left right leftGuard rightGuard) l f = omega arith
+few-spans (MultiSpan count drifts) l f = f .count .high
+few-spans (Cylindrical rise span) l f = omega arith
+few-spans (Abutting b1 b2 h slope guard) l f = omega arith
+few-spans (Projection h left right) l f = omega arith

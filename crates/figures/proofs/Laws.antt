@@ -9,7 +9,8 @@ use native.Mathlib.Numerals.{add-one}
 use native.Mathlib.Omega.{arith}
 use Rattle.figures.specs.Ranges.{within}
 use Rattle.figures.specs.Rules.{refusedIf, firstOf}
-use Rattle.figures.specs.RoofRules.{slopeOf, slopeFields, slopesFields, steepValley, steepValleys, multiSpanRefusal}
+use Rattle.figures.specs.RoofRules.{slopeOf, slopeFields, slopesFields, valleyOf, valleyFields, valleysFields, steepValley, steepValleys}
+use Rattle.figures.specs.RoofRules.{spanFields, multiSpanRefusal}
 
 -- what a conjunction and a range tell
 pub both : (a b : Bool) → (a && b) ≡ true → (a ≡ true) × (b ≡ true)
@@ -20,6 +21,10 @@ pub within-in : (low high x : ℕ) → within low high x ≡ true → (low ≤ x
 within-in low high x h =
     let p = both (leb low x) (leb x high) h in
     (leb-true low x (p .0), leb-true x high (p .1))
+
+pub and-true : (a : Bool) → (a && true) ≡ a
+and-true true = refl
+and-true false = refl
 
 -- the first of two rules that is broken
 pub first-kept : (a b : ℕ) → a ≡ 0 → b ≡ firstOf a b
@@ -45,6 +50,10 @@ module _ (l : List ℕ) (i : ℕ) (a b : Bool) where
   unfolding slopesFields
   slopes-more p q = rw (add-one i, p, q)
 
+  pub drifts-more : a ≡ valleysFields l i → b ≡ valleyFields (valleyOf l i) → (a && b) ≡ valleysFields l (i + 1)
+  unfolding valleysFields
+  drifts-more p q = rw (add-one i, p, q)
+
   pub valleys-more :
       (x y : ℕ) → x ≡ 2 * i + 1 → y ≡ 2 * i + 2 → a ≡ steepValleys l i
       → b ≡ steepValley (slopeOf l x .pitch) (slopeOf l y .pitch) → (a || b) ≡ steepValleys l (i + 1)
@@ -52,12 +61,13 @@ module _ (l : List ℕ) (i : ℕ) (a b : Bool) where
   valleys-more x y f g p q = rw (add-one i, p, q, f, g)
 
 -- a multi-span roof by its count
-module _ (n : ℕ) (l : List ℕ) where
-  pub no-count : within 2 16 n ≡ false → 8 ≡ multiSpanRefusal n l
+module _ (n : ℕ) (drifts : Bool) (l : List ℕ) where
+  pub no-count : within 2 16 n ≡ false → 8 ≡ multiSpanRefusal n drifts l
   unfolding firstOf
   no-count e = rw e
 
   pub its-count :
       within 2 16 n ≡ true
-      → firstOf (refusedIf (not (slopesFields l (2 * n))) 8) (refusedIf (steepValleys l (n - 1)) 9) ≡ multiSpanRefusal n l
+      → firstOf (refusedIf (not (spanFields drifts l n)) 8) (refusedIf (steepValleys l (n - 1)) 9)
+      ≡ multiSpanRefusal n drifts l
   its-count e = rw e

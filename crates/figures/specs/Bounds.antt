@@ -16,7 +16,7 @@ pub record SiteIn (s : Site) : Type 0 where
   pub ce : Within 80 120 (s .ce)
   pub ct : Within 1 100 (s .ct)
   pub cesl : Within 100 300 (s .cesl)
-  pub situation : s .situation ≤ 1
+  pub situation : s .situation ≤ 3
   pub altitude : s .altitude ≤ 1500
 
 pub record SlopeIn (s : Slope) : Type 0 where
@@ -35,7 +35,7 @@ pub record PitchedIn (s t : Slope) (g k : ℕ) : Type 0 where
 
 pub record MultiSpanIn (n : ℕ) (l : List ℕ) : Type 0 where
   pub count : Within 2 16 n
-  pub slopes : (i : ℕ) → i < 2 * n → SlopeIn (slopeOf l i)
+  pub spans : (i : ℕ) → i < 2 * n → SlopeIn (slopeOf l i)
 
 pub record CylindricalIn (r s : ℕ) : Type 0 where
   pub rise : Within 1 15000 r
@@ -55,9 +55,9 @@ pub record ProjectionIn (h a b : ℕ) : Type 0 where
   pub right : Within 1 100000 b
 
 abbrev pub ShapeIn : Shape → List ℕ → Type 0
-ShapeIn (Monopitch slope guard) slopes = MonopitchIn slope guard
-ShapeIn (Pitched left right leftGuard rightGuard) slopes = PitchedIn left right leftGuard rightGuard
-ShapeIn (MultiSpan count) slopes = MultiSpanIn count slopes
-ShapeIn (Cylindrical rise span) slopes = CylindricalIn rise span
-ShapeIn (Abutting b1 b2 h slope guard) slopes = AbuttingIn b1 b2 h slope guard
-ShapeIn (Projection h left right) slopes = ProjectionIn h left right
+ShapeIn (Monopitch slope guard) spans = MonopitchIn slope guard
+ShapeIn (Pitched left right leftGuard rightGuard) spans = PitchedIn left right leftGuard rightGuard
+ShapeIn (MultiSpan count drifts) spans = MultiSpanIn count spans
+ShapeIn (Cylindrical rise span) spans = CylindricalIn rise span
+ShapeIn (Abutting b1 b2 h slope guard) spans = AbuttingIn b1 b2 h slope guard
+ShapeIn (Projection h left right) spans = ProjectionIn h left right

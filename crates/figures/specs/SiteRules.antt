@@ -10,9 +10,9 @@ use Rattle.figures.specs.declared.site.Site.{Site}
 abbrev pub groundField : ℕ → Bool
 groundField sk = within 100 25000 sk
 
--- Ce 80..120; Ct 1..100; Cesl 100..300; situation 0 or 1
+-- Ce 80..120; Ct 1..100; Cesl 100..300; "6 when the situation is above 3, in its old place"
 abbrev pub otherFields : ℕ → ℕ → ℕ → ℕ → Bool
-otherFields ce ct cesl situation = within 80 120 ce && within 1 100 ct && within 100 300 cesl && leb situation 1
+otherFields ce ct cesl situation = within 80 120 ce && within 1 100 ct && within 100 300 cesl && leb situation 3
 
 abbrev pub siteFields : Site → Bool
 siteFields s = groundField (s .sk) && otherFields (s .ce) (s .ct) (s .cesl) (s .situation)

@@ -5,13 +5,16 @@ mod site;
 mod slopes;
 
 pub use roof::Roof;
-pub use roof::SLOPE_NUMBERS;
+pub use roof::SPAN_NUMBERS;
 pub use roof::Shape;
 pub use roof::Slope;
+pub use roof::Valley;
 pub use roof::kind_of;
+pub use roof::span_count;
 pub use rules::first;
 pub use rules::refused_if;
 pub use site::Ground;
 pub use site::Site;
 pub use site::SiteData;
 pub use slopes::slope_at;
+pub use slopes::valley_at;

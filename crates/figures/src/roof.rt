@@ -1,9 +1,9 @@
-// A roof: its shape, with the slopes of a multi-span roof beside it.
+// A roof: its shape, with the slopes and valleys of a multi-span roof beside it.
 ghost use mathlib.Core.Path.{_≡_};
-ghost use Rattle.figures.specs.RoofRules.{kindOf};
+ghost use Rattle.figures.specs.RoofRules.{kindOf, spanCount};
 
-// How many numbers the slopes of a multi-span roof take: two for each of 32 slopes.
-pub const SLOPE_NUMBERS: usize = 64;
+// How many numbers the spans of a multi-span roof take: two for each of 32 slopes, and two for each of 15 valleys.
+pub const SPAN_NUMBERS: usize = 94;
 
 // A slope: its pitch in tenths of a degree, and its plan width in mm.
 pub struct Slope {
@@ -11,7 +11,14 @@ pub struct Slope {
     pub width: u32,
 }
 
-// The shape of a roof, kinds 2 to 7. Lengths in mm; a guard is 0 or 1.
+// A valley: its depth and its length, b3 of Annex B, in mm.
+pub struct Valley {
+    pub h: u32,
+    pub b3: u32,
+}
+
+// The shape of a roof, kinds 2 to 7 and 9. Lengths in mm; a guard is 0 or 1. A multi-span roof with drifts in its valleys
+// by Annex B is of kind 9, one without them of kind 4.
 pub enum Shape {
     Monopitch {
         slope: Slope,
@@ -25,6 +32,7 @@ pub enum Shape {
     },
     MultiSpan {
         count: u8,
+        drifts: bool,
     },
     Cylindrical {
         rise: u32,
@@ -44,11 +52,11 @@ pub enum Shape {
     },
 }
 
-// A roof. The slopes of a multi-span roof stand from left to right, two numbers each: pitch and width. Other kinds have
-// zeros there.
+// A roof. The slopes of a multi-span roof stand from left to right, two numbers each: pitch and width. Behind the place of
+// 32 slopes stand its valleys, two numbers each: depth and length. What a roof hasn't are zeros.
 pub struct Roof {
     pub shape: Shape,
-    pub slopes: [u32; SLOPE_NUMBERS],
+    pub spans: [u32; SPAN_NUMBERS],
 }
 
 // The kind of a shape, by document 01's number.
@@ -58,9 +66,28 @@ pub fn kind_of(shape: Shape) -> u8
     match shape {
         Shape::Monopitch { .. } => 2,
         Shape::Pitched { .. } => 3,
-        Shape::MultiSpan { .. } => 4,
+        Shape::MultiSpan { count: _, drifts } => {
+            if drifts {
+                return 9;
+            }
+            4
+        },
         Shape::Cylindrical { .. } => 5,
         Shape::Abutting { .. } => 6,
         Shape::Projection { .. } => 7,
+    }
+}
+
+// How many spans a multi-span roof has, 0 for any other.
+pub fn span_count(shape: Shape) -> u8
+    ensures { λ r. ⌜ r ≡ spanCount shape ⌝ }
+{
+    match shape {
+        Shape::Monopitch { .. } => 0,
+        Shape::Pitched { .. } => 0,
+        Shape::MultiSpan { count, drifts: _ } => count,
+        Shape::Cylindrical { .. } => 0,
+        Shape::Abutting { .. } => 0,
+        Shape::Projection { .. } => 0,
     }
 }

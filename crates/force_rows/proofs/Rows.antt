@@ -18,10 +18,10 @@ use Rattle.text.proofs.Writing.{short}
 
 -- a kind without local forces has no rows of them
 pub no-forces :
-    (s : Site) (shape : Shape) (item : ℕ) (slopes : List ℕ) → shapeRefusal shape slopes ≡ 0 → forcesIn (kindOf shape) ≡ false
+    (s : Site) (shape : Shape) (item : ℕ) (spans : List ℕ) → shapeRefusal shape spans ≡ 0 → forcesIn (kindOf shape) ≡ false
     → [] ≡ forceRows s shape item
 unfolding forceRows slopeRows overhangAt guardAt
-no-forces s shape item slopes h e = rw (no-sides shape slopes 1 h e, no-sides shape slopes 2 h e)
+no-forces s shape item spans h e = rw (no-sides shape spans 1 h e, no-sides shape spans 2 h e)
 
 four-short : (a b c d : ℕ) → length (row (a ∷ b ∷ c ∷ d ∷ [])) ≤ 44
 four-short a b c d = simp length-append (omega (arith, short a, short b, short c, short d))

@@ -6,11 +6,14 @@ use lib.Dec.{eqb}
 use lib.ListN.{length}
 use native.Mathlib.Omega.{arith}
 use Rattle.little_endian.specs.Numbers.{byteAt}
-use Rattle.items.specs.Items.{malformed, sized, siteItem, monopitchItem, pitchedItem, multiSpanItem, cylindricalItem, abuttingItem, projectionItem}
-use Rattle.items.specs.Items.{mapSiteItem, byKind, content}
-use Rattle.items.specs.declared.decoding.Item.{Item}
-use Rattle.items.specs.declared.decoding.Item.the-variants.{SiteItem, RoofItem, Malformed}
-use Rattle.items.specs.declared.decoding.Decoded.{Decoded}
+use Rattle.item_forms.specs.Forms.{malformed, sized}
+use Rattle.item_forms.specs.declared.Item.{Item}
+use Rattle.item_forms.specs.declared.Item.the-variants.{SiteItem, RoofItem, Malformed}
+use Rattle.item_forms.specs.declared.Decoded.{Decoded}
+use Rattle.site_items.specs.SiteItems.{siteItem, mapSiteItem}
+use Rattle.roof_items.specs.RoofItems.{monopitchItem, pitchedItem, cylindricalItem, abuttingItem, projectionItem}
+use Rattle.span_items.specs.SpanItems.{multiSpanItem, driftedItem}
+use Rattle.items.specs.Items.{byKind, content}
 
 abbrev pub Numbered : Item → Type 0
 Numbered (SiteItem fields) = Unit {0}
@@ -26,7 +29,7 @@ unfolding sized
 of-size n p d h = either (eqb (length p) n) d (malformed 4) h (omega arith)
 
 by-kind : (k : ℕ) (p : List ℕ) → Numbered (byKind k p .item)
-unfolding byKind siteItem monopitchItem pitchedItem multiSpanItem cylindricalItem abuttingItem projectionItem mapSiteItem
+unfolding byKind siteItem monopitchItem pitchedItem multiSpanItem cylindricalItem abuttingItem projectionItem mapSiteItem driftedItem
 by-kind k p =
     either (eqb k 1) _ _ (of-size _ p _ tt)
     (either (eqb k 2) _ _ (of-size _ p _ tt)
@@ -35,7 +38,8 @@ by-kind k p =
     (either (eqb k 5) _ _ (of-size _ p _ tt)
     (either (eqb k 6) _ _ (of-size _ p _ tt)
     (either (eqb k 7) _ _ (of-size _ p _ tt)
-    (either (eqb k 8) _ _ (of-size _ p _ tt) (omega arith))))))))
+    (either (eqb k 8) _ _ (of-size _ p _ tt)
+    (either (eqb k 9) _ _ (either (eqb (byteAt p 1) 0) _ _ (omega arith) (of-size _ p _ tt)) (omega arith)))))))))
 
 pub numbered : (p : List ℕ) → Numbered (content p .item)
 unfolding content

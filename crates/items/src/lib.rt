@@ -1,6 +1,44 @@
-// What an item's bytes say: a site, the shape of a roof with its slopes, or the number by which their form is refused.
-mod decoding;
+// What an item's bytes say: a site, the shape of a roof with its spans, or the number by which their form is refused.
+ghost use mathlib.Core.Path.{_≡_};
+ghost use Rattle.items.specs.Items.{content};
+pub use item_forms::Decoded;
+use item_forms::ITEM_LENGTH;
+pub use item_forms::Item;
+use item_forms::UNKNOWN_KIND;
+use item_forms::refused;
+use roof_items::abutting_item;
+use roof_items::cylindrical_item;
+use roof_items::monopitch_item;
+use roof_items::pitched_item;
+use roof_items::projection_item;
+use site_items::map_site_item;
+use site_items::site_item;
+use span_items::drifted_item;
+use span_items::multi_span_item;
 
-pub use decoding::Decoded;
-pub use decoding::Item;
-pub use decoding::decode;
+// What an item's bytes say. It asks for its kind and its length alone; the value rules are the figures'.
+pub fn decode(p: &[u8]) -> Decoded
+    ensures { λ r. ⌜ r ≡ content (now (p .entry)) ⌝ }
+{
+    if p.len() == 0 {
+        return refused(ITEM_LENGTH);
+    }
+    let kind = p[0];
+    // The kinds with spans are answered apart, so that these aren't copied where the others meet.
+    if kind == 4 {
+        return multi_span_item(p);
+    }
+    if kind == 9 {
+        return drifted_item(p);
+    }
+    match kind {
+        1 => site_item(p),
+        2 => monopitch_item(p),
+        3 => pitched_item(p),
+        5 => cylindrical_item(p),
+        6 => abutting_item(p),
+        7 => projection_item(p),
+        8 => map_site_item(p),
+        _ => refused(UNKNOWN_KIND),
+    }
+}

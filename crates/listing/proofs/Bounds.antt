@@ -19,7 +19,7 @@ use Rattle.text.proofs.Writing.{short, in-place, room, wrote-as}
 use Rattle.text.specs.Text.{Wrote}
 
 module _ (sheet : List ℕ) (n : ℕ) (h : sheetVerdict terminals sheet ≡ accepted n) where
-  items-short : (k : ℕ) → k < n → length (itemsRows recommendedFigures sheet (suc k)) ≤ 8888 * k
+  items-short : (k : ℕ) → k < n → length (itemsRows recommendedFigures sheet (suc k)) ≤ 8624 * k
   unfolding itemsRows itemRows
   items-short zero l = omega arith
   items-short (suc k) l =
@@ -30,7 +30,7 @@ module _ (sheet : List ℕ) (n : ℕ) (h : sheetVerdict terminals sheet ≡ acce
         roof-short recommendedFigures (sheetSite sheet) (sheetRoof sheet (suc k)) (suc k) (figures-at sheet n h (suc k) (omega arith) l),
       )
 
-  all-short : (m : ℕ) → m ≡ n → length (itemsRows recommendedFigures sheet m) ≤ 275528
+  all-short : (m : ℕ) → m ≡ n → length (itemsRows recommendedFigures sheet m) ≤ 267344
   all-short zero l = absurd (omega (arith, some-items sheet n h))
   all-short (suc k) l = omega (arith, items-short k (omega arith), few-items sheet n h)
 

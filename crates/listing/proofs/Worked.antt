@@ -16,7 +16,10 @@ use Rattle.rounding.specs.Limit.{larger}
 use Rattle.rounding.specs.Load.{breakLoad}
 use Rattle.rounding.specs.Ramp.{reading}
 use Rattle.rounding.specs.Up.{ceilDiv, roundedUp}
-use Rattle.items.specs.Items.{sized, siteItem, mapSiteItem, monopitchItem, byKind, content}
+use Rattle.items.specs.Items.{byKind, content}
+use Rattle.site_items.specs.SiteItems.{siteItem, mapSiteItem}
+use Rattle.roof_items.specs.RoofItems.{monopitchItem}
+use Rattle.item_forms.specs.Forms.{sized}
 use Rattle.sheet_figures.specs.Find.{sheetSite, sheetRoof}
 use Rattle.sheet_figures.specs.MapSites.{givenItem, GivenLoad}
 use Rattle.pairs.specs.Pairs.{pairNumber, inTurn, pairsVerdict}

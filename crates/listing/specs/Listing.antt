@@ -40,9 +40,9 @@ listingBy (refused number item) sheet = refusedRow number item
 unfoldable pub listing : List ℕ → List ℕ
 listing sheet = listingBy (sheetVerdict terminals sheet) sheet
 
--- room for the listing of any sheet: the header of 29 bytes, and for each of 31 roofs 132 rows of 66 bytes and 4 of 44
+-- room for the listing of any sheet: the header of 29 bytes, and for each of 31 roofs 128 rows of 66 bytes and 4 of 44
 abbrev pub listRoom : ℕ
-listRoom = 275557
+listRoom = 267373
 
 -- the bytes that are written: none where the room is too small
 unfoldable pub listed : List ℕ → ℕ → ℕ

@@ -14,7 +14,7 @@ use sheet::Verdict;
 use sheet::verdict;
 
 // Room for the listing of any sheet, in bytes.
-pub const LIST_ROOM: usize = 275_557;
+pub const LIST_ROOM: usize = 267_373;
 
 // Writes the listing of an accepted sheet.
 fn list_accepted(sheet: &[u8], n: usize, numbers: &mut [u32; NUMBERS], out: &mut [u8]) -> usize

@@ -20,7 +20,7 @@ pub fn list_items(
     out: &mut [u8],
     at: usize,
 ) -> usize
-    requires { ⌜ (sheetVerdict terminals (now sheet) ≡ accepted n) × (at + 275528 ≤ length (now out)) ⌝ }
+    requires { ⌜ (sheetVerdict terminals (now sheet) ≡ accepted n) × (at + 267344 ≤ length (now out)) ⌝ }
     ensures { λ r. ⌜ Wrote (now (out .entry)) at (itemsRows recommendedFigures (now (sheet .entry)) n) (now (out .exit)) r ⌝ }
 {
     let national = standard::recommended();

@@ -23,5 +23,5 @@ slopeMeans Missing = noSlope
 
 -- a shape that no rule refuses, with some slopes beside it
 pub record AcceptedShape (shape : Shape) : Type 0 where
-  pub slopes : List ℕ
-  pub accepted : shapeRefusal shape slopes ≡ 0
+  pub spans : List ℕ
+  pub accepted : shapeRefusal shape spans ≡ 0

@@ -38,7 +38,7 @@ pub one-more :
 unfolding greatest readingAt readIn valueOf readRamp rampOf
 one-more S p i start r es er best v b e f g = g ∙ rw (add-one i, e, f, es, er)
 
-module _ (national : National) (s : Site) (r : Roof) (code p end : ℕ) (e : end ≡ endIn (r .shape) (r .slopes)) where
+module _ (national : National) (s : Site) (r : Roof) (code p end : ℕ) (e : end ≡ endIn (r .shape) (r .spans)) where
   pub off-roof : end < p → refused 12 ≡ stationAnswer national s r code p
   unfolding stationAnswer endOf
   off-roof lt = rw (← e, lt-leb p end lt)

@@ -11,7 +11,7 @@ ghost use Rattle.standard.specs.Coefficients.{recommendedFigures};
 ghost use Rattle.standard.specs.Stretch.{greatest};
 ghost use Rattle.standard.specs.Units.{largestPosition, largestLoad};
 use figures::Roof;
-use figures::SLOPE_NUMBERS;
+use figures::SPAN_NUMBERS;
 use figures::Shape;
 use figures::Site;
 use segments::Ramp;
@@ -45,19 +45,19 @@ fn greatest_reading(
     national: National,
     site: Site,
     shape: Shape,
-    slopes: &[u32; SLOPE_NUMBERS],
+    spans: &[u32; SPAN_NUMBERS],
     code: u8,
     n: usize,
     station: u64,
 ) -> u64
-    requires { ⌜ FiguresIn national site (roofOf shape (now slopes)) × (n ≡ count national (roofOf shape (now slopes)) code) ⌝ }
-    ensures { λ r. ⌜ (r ≡ greatest (stretch national site (roofOf shape (now (slopes .entry))) code) station n) × (r ≤ largestLoad) ⌝ }
+    requires { ⌜ FiguresIn national site (roofOf shape (now spans)) × (n ≡ count national (roofOf shape (now spans)) code) ⌝ }
+    ensures { λ r. ⌜ (r ≡ greatest (stretch national site (roofOf shape (now (spans .entry))) code) station n) × (r ≤ largestLoad) ⌝ }
 {
     let mut load: u64 = 0;
     let mut start: u64 = 0;
     let mut i = 0;
     while i < n {
-        let ramp = segments::ramp_at(national, site, shape, slopes, code, i);
+        let ramp = segments::ramp_at(national, site, shape, spans, code, i);
         load = rounding::most(load, read(ramp, start, station));
         start += ramp.extent;
         i += 1;
@@ -72,12 +72,12 @@ fn load_accepted(site: Site, roof: Roof, code: u8, station: u32) -> Reading
 {
     let national = standard::recommended();
     let shape = roof.shape;
-    let slopes = roof.slopes;
-    if segments::end(shape, &slopes) < station as u64 {
+    let spans = roof.spans;
+    if segments::end(shape, &spans) < station as u64 {
         return Reading::Refused(PAST_THE_END);
     }
-    let n = segments::count(national, site, shape, &slopes, code);
-    let load = greatest_reading(national, site, shape, &slopes, code, n, station as u64);
+    let n = segments::count(national, site, shape, &spans, code);
+    let load = greatest_reading(national, site, shape, &spans, code, n, station as u64);
     Reading::Load(load as u32)
 }
 

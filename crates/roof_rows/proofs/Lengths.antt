@@ -36,11 +36,11 @@ module _ (national : National) (s : Site) (r : Roof) (item : ℕ) where
         code-short (suc n),
       )
 
-  arrangement-short : FiguresIn national s r → length (arrangementRows national s r item) ≤ 8712
+  arrangement-short : FiguresIn national s r → length (arrangementRows national s r item) ≤ 8448
   unfolding arrangementRows
   arrangement-short h = omega (arith, codes-short highestCode, rows-most national s r h)
 
-pub roof-short : (national : National) (s : Site) (r : Roof) (item : ℕ) → FiguresIn national s r → length (roofRows national s r item) ≤ 8888
+pub roof-short : (national : National) (s : Site) (r : Roof) (item : ℕ) → FiguresIn national s r → length (roofRows national s r item) ≤ 8624
 unfolding roofRows
 roof-short national s r item h =
     omega (

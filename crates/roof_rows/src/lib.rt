@@ -3,17 +3,19 @@ ghost use mathlib.Core.Bool.{true};
 ghost use mathlib.Core.Path.{_≡_};
 ghost use Prim.Native.Nat.{_+_, _*_, _≤_};
 ghost use lib.ListN.{length};
-ghost use Rattle.figures.specs.RoofRules.{roofOf};
+ghost use Rattle.figures.specs.RoofRules.{roofOf, kindOf, spanCount};
 ghost use Rattle.roof_rows.specs.Rows.{codeRows, arrangementRows, roofRows, rowCount};
 ghost use Rattle.standard.specs.Arrangements.{exists};
 ghost use Rattle.standard.specs.Bounds.{FiguresIn};
 ghost use Rattle.text.specs.Text.{Wrote};
 use codes::has_code;
+use codes::last_code;
 use figures::Roof;
-use figures::SLOPE_NUMBERS;
+use figures::SPAN_NUMBERS;
 use figures::Shape;
 use figures::Site;
 use figures::kind_of;
+use figures::span_count;
 use force_rows::list_forces;
 use segment_rows::list_segments;
 use standard::National;
@@ -26,42 +28,45 @@ fn list_arrangement(
     national: National,
     site: Site,
     shape: Shape,
-    slopes: &[u32; SLOPE_NUMBERS],
+    spans: &[u32; SPAN_NUMBERS],
     item: u32,
     code: u8,
     numbers: &mut [u32; NUMBERS],
     out: &mut [u8],
     at: usize,
 ) -> usize
-    requires { ⌜ FiguresIn national site (roofOf shape (now slopes)) × (exists site (roofOf shape (now slopes)) code ≡ true) × (at + 66 * rowCount national site (roofOf shape (now slopes)) code ≤ length (now out)) ⌝ }
-    ensures { λ r. ⌜ Wrote (now (out .entry)) at (codeRows national site (roofOf shape (now (slopes .entry))) item code) (now (out .exit)) r ⌝ }
-    ensures { λ r. ⌜ r ≤ at + 66 * rowCount national site (roofOf shape (now (slopes .entry))) code ⌝ }
+    requires { ⌜ FiguresIn national site (roofOf shape (now spans)) × (exists site (roofOf shape (now spans)) code ≡ true) × (at + 66 * rowCount national site (roofOf shape (now spans)) code ≤ length (now out)) ⌝ }
+    ensures { λ r. ⌜ Wrote (now (out .entry)) at (codeRows national site (roofOf shape (now (spans .entry))) item code) (now (out .exit)) r ⌝ }
+    ensures { λ r. ⌜ r ≤ at + 66 * rowCount national site (roofOf shape (now (spans .entry))) code ⌝ }
 {
-    let n = segments::count(national, site, shape, slopes, code);
-    arrangement::write(national, site, shape, slopes, code, n, numbers);
+    let n = segments::count(national, site, shape, spans, code);
+    arrangement::write(national, site, shape, spans, code, n, numbers);
     list_segments(numbers, n, item, code as u32, out, at)
 }
 
-// Writes the rows of one code, and nothing where the roof hasn't it.
+// Writes the rows of one code, and nothing where the roof, of its kind and number of spans, hasn't it.
 fn list_code(
     national: National,
     site: Site,
     shape: Shape,
-    slopes: &[u32; SLOPE_NUMBERS],
+    spans: &[u32; SPAN_NUMBERS],
+    kind: u8,
+    count: u8,
     item: u32,
     code: u8,
     numbers: &mut [u32; NUMBERS],
     out: &mut [u8],
     at: usize,
 ) -> usize
-    requires { ⌜ FiguresIn national site (roofOf shape (now slopes)) × (at + 66 * rowCount national site (roofOf shape (now slopes)) code ≤ length (now out)) ⌝ }
-    ensures { λ r. ⌜ Wrote (now (out .entry)) at (codeRows national site (roofOf shape (now (slopes .entry))) item code) (now (out .exit)) r ⌝ }
-    ensures { λ r. ⌜ r ≤ at + 66 * rowCount national site (roofOf shape (now (slopes .entry))) code ⌝ }
+    requires { ⌜ (kind ≡ kindOf shape) × (count ≡ spanCount shape) ⌝ }
+    requires { ⌜ FiguresIn national site (roofOf shape (now spans)) × (at + 66 * rowCount national site (roofOf shape (now spans)) code ≤ length (now out)) ⌝ }
+    ensures { λ r. ⌜ Wrote (now (out .entry)) at (codeRows national site (roofOf shape (now (spans .entry))) item code) (now (out .exit)) r ⌝ }
+    ensures { λ r. ⌜ r ≤ at + 66 * rowCount national site (roofOf shape (now (spans .entry))) code ⌝ }
 {
-    if !has_code(kind_of(shape), site.situation, code) {
+    if !has_code(kind, site.situation, count, code) {
         return at;
     }
-    list_arrangement(national, site, shape, slopes, item, code, numbers, out, at)
+    list_arrangement(national, site, shape, spans, item, code, numbers, out, at)
 }
 
 // Writes the rows of every arrangement of a roof, code upward.
@@ -69,21 +74,36 @@ fn list_codes(
     national: National,
     site: Site,
     shape: Shape,
-    slopes: &[u32; SLOPE_NUMBERS],
+    spans: &[u32; SPAN_NUMBERS],
     item: u32,
     numbers: &mut [u32; NUMBERS],
     out: &mut [u8],
     at: usize,
 ) -> usize
-    requires { ⌜ FiguresIn national site (roofOf shape (now slopes)) × (at + 8712 ≤ length (now out)) ⌝ }
-    ensures { λ r. ⌜ Wrote (now (out .entry)) at (arrangementRows national site (roofOf shape (now (slopes .entry))) item) (now (out .exit)) r ⌝ }
-    ensures { λ r. ⌜ r ≤ at + 8712 ⌝ }
+    requires { ⌜ FiguresIn national site (roofOf shape (now spans)) × (at + 8448 ≤ length (now out)) ⌝ }
+    ensures { λ r. ⌜ Wrote (now (out .entry)) at (arrangementRows national site (roofOf shape (now (spans .entry))) item) (now (out .exit)) r ⌝ }
+    ensures { λ r. ⌜ r ≤ at + 8448 ⌝ }
 {
+    let kind = kind_of(shape);
+    let count = span_count(shape);
+    let last = last_code(kind, site.situation, count);
     let mut a = at;
     let mut code: u8 = 0;
-    while code < codes::HIGHEST {
+    while code < last {
         code += 1;
-        a = list_code(national, site, shape, slopes, item, code, numbers, out, a);
+        a = list_code(
+            national,
+            site,
+            shape,
+            spans,
+            kind,
+            count,
+            item,
+            code,
+            numbers,
+            out,
+            a,
+        );
     }
     a
 }
@@ -98,12 +118,11 @@ pub fn list_roof(
     out: &mut [u8],
     at: usize,
 ) -> usize
-    requires { ⌜ FiguresIn national site roof × (at + 8888 ≤ length (now out)) ⌝ }
+    requires { ⌜ FiguresIn national site roof × (at + 8624 ≤ length (now out)) ⌝ }
     ensures { λ r. ⌜ Wrote (now (out .entry)) at (roofRows national site roof item) (now (out .exit)) r ⌝ }
-    ensures { λ r. ⌜ r ≤ at + 8888 ⌝ }
+    ensures { λ r. ⌜ r ≤ at + 8624 ⌝ }
 {
     let shape = roof.shape;
-    let slopes = roof.slopes;
-    let a = list_codes(national, site, shape, &slopes, item, numbers, out, at);
+    let a = list_codes(national, site, shape, &roof.spans, item, numbers, out, at);
     list_forces(site, shape, item, out, a)
 }

@@ -3,7 +3,7 @@ ghost use mathlib.Core.Path.{_≡_};
 ghost use Rattle.figures.specs.Refusals.{figuresRefusal};
 ghost use Rattle.figures.specs.RoofRules.{monopitchRefusal, pitchedRefusal, multiSpanRefusal, cylindricalRefusal, abuttingRefusal, projectionRefusal, shapeRefusal, roofRefusal};
 use figures::Roof;
-use figures::SLOPE_NUMBERS;
+use figures::SPAN_NUMBERS;
 use figures::Shape;
 use figures::Site;
 use figures::Slope;
@@ -11,7 +11,7 @@ use figures::first;
 use figures::refused_if;
 use site_rules::site_refusal;
 use slope_rules::slope_fields;
-use slope_rules::slopes_fields;
+use slope_rules::span_fields;
 use slope_rules::steep_valleys;
 
 // Refusals of a roof, by document 01's numbers.
@@ -36,17 +36,17 @@ fn pitched_refusal(left: Slope, right: Slope, left_guard: u8, right_guard: u8) -
     )
 }
 
-fn multi_span_refusal(count: u8, slopes: &[u32; SLOPE_NUMBERS]) -> u8
-    ensures { λ r. ⌜ r ≡ multiSpanRefusal count (now (slopes .entry)) ⌝ }
+fn multi_span_refusal(count: u8, drifts: bool, spans: &[u32; SPAN_NUMBERS]) -> u8
+    ensures { λ r. ⌜ r ≡ multiSpanRefusal count drifts (now (spans .entry)) ⌝ }
 {
     if !((2 <= count) & (count <= 16)) {
         return ROOF_FIELD;
     }
-    let spans = count as usize;
-    let fields = refused_if(!slopes_fields(slopes, 2 * spans), ROOF_FIELD);
+    let n = count as usize;
+    let fields = refused_if(!span_fields(drifts, spans, n), ROOF_FIELD);
     first(
         fields,
-        refused_if(steep_valleys(slopes, spans - 1), VALLEY_PITCH),
+        refused_if(steep_valleys(spans, n - 1), VALLEY_PITCH),
     )
 }
 
@@ -79,8 +79,8 @@ fn projection_refusal(h: u32, left: u32, right: u32) -> u8
 }
 
 // The number of the first value rule that a shape with its slopes breaks, 0 where it breaks none.
-pub fn shape_refusal(shape: Shape, slopes: &[u32; SLOPE_NUMBERS]) -> u8
-    ensures { λ r. ⌜ r ≡ shapeRefusal shape (now (slopes .entry)) ⌝ }
+pub fn shape_refusal(shape: Shape, spans: &[u32; SPAN_NUMBERS]) -> u8
+    ensures { λ r. ⌜ r ≡ shapeRefusal shape (now (spans .entry)) ⌝ }
 {
     match shape {
         Shape::Monopitch { slope, guard } => monopitch_refusal(slope, guard),
@@ -90,7 +90,7 @@ pub fn shape_refusal(shape: Shape, slopes: &[u32; SLOPE_NUMBERS]) -> u8
             left_guard,
             right_guard,
         } => pitched_refusal(left, right, left_guard, right_guard),
-        Shape::MultiSpan { count } => multi_span_refusal(count, slopes),
+        Shape::MultiSpan { count, drifts } => multi_span_refusal(count, drifts, spans),
         Shape::Cylindrical { rise, span } => cylindrical_refusal(rise, span),
         Shape::Abutting {
             b1,
@@ -108,8 +108,7 @@ pub fn roof_refusal(roof: Roof) -> u8
     ensures { λ r. ⌜ r ≡ roofRefusal roof ⌝ }
 {
     let shape = roof.shape;
-    let slopes = roof.slopes;
-    shape_refusal(shape, &slopes)
+    shape_refusal(shape, &roof.spans)
 }
 
 // The number of the first rule that the site or the roof breaks, 0 where they break none.

@@ -1,9 +1,10 @@
-// What a roof has: its codes, its end, and its segments from left to right, all six kinds.
+// What a roof has: its end, and its segments from left to right, all kinds.
 ghost use Prim.Native.Nat.{_≤_, _<_};
 use figures::Roof;
 use figures::Shape;
 use second_arch::arch_count;
 use second_arch::on_cylinder;
+use second_codes::persistent;
 use second_drifts::around_projection;
 use second_drifts::at_wall;
 use second_drifts::beyond_wall;
@@ -17,26 +18,8 @@ use second_slopes::on_monopitch;
 use second_slopes::on_right;
 use second_slopes::on_spans;
 use second_slopes::slope_start;
-
-// The code of the same shape without Cesl.
-fn persistent(code: u8) -> u8 {
-    if 10 < code { code - 10 } else { code }
-}
-
-// Whether the roof has the code: 11, 12 and 13 in situation 1 alone, and never at a projection.
-pub fn exists(shape: Shape, situation: u8, code: u8) -> bool {
-    let accidental = 10 < code;
-    let base = persistent(code);
-    let allowed = !accidental | (situation == 1);
-    match shape {
-        Shape::Monopitch { .. } => allowed & (base == 1),
-        Shape::Pitched { .. } => allowed & (1 <= base) & (base <= 3),
-        Shape::MultiSpan { .. } => allowed & (1 <= base) & (base <= 2),
-        Shape::Cylindrical { .. } => allowed & (1 <= base) & (base <= 2),
-        Shape::Abutting { .. } => allowed & (1 <= base) & (base <= 2),
-        Shape::Projection { .. } => code == 2,
-    }
-}
+use second_valleys::DRIFT_SEGMENTS;
+use second_valleys::in_drift;
 
 // The slopes of a multi-span roof.
 fn slope_count(count: u8) -> usize
@@ -57,7 +40,12 @@ pub fn segment_count(shape: Shape, code: u8) -> usize
     match shape {
         Shape::Monopitch { .. } => 1,
         Shape::Pitched { .. } => 2,
-        Shape::MultiSpan { count } => slope_count(count),
+        Shape::MultiSpan { count, .. } => {
+            if 30 < code {
+                return DRIFT_SEGMENTS;
+            }
+            slope_count(count)
+        }
         Shape::Cylindrical { rise, span } => arch_count(rise, span, base),
         Shape::Abutting { b2, h, .. } => wall_count(b2, h, base),
         Shape::Projection { h, left, right } => projection_count(h, left, right),
@@ -70,7 +58,7 @@ pub fn segment_at(roof: Roof, code: u8, sk: u32, i: usize) -> Segment
 {
     let base = persistent(code);
     let shape = roof.shape;
-    let slopes = roof.slopes;
+    let spans = roof.spans;
     match shape {
         Shape::Monopitch { slope, guard } => on_monopitch(slope, guard),
         Shape::Pitched {
@@ -85,7 +73,12 @@ pub fn segment_at(roof: Roof, code: u8, sk: u32, i: usize) -> Segment
                 on_right(left, right, right_guard, base)
             }
         }
-        Shape::MultiSpan { count } => on_spans(&slopes, slope_count(count), base, i),
+        Shape::MultiSpan { count, .. } => {
+            if 30 < code {
+                return in_drift(&spans, slope_count(count), code, sk, i);
+            }
+            on_spans(&spans, slope_count(count), base, i)
+        }
         Shape::Cylindrical { rise, span } => on_cylinder(rise, span, base, i),
         Shape::Abutting {
             b1,
@@ -107,11 +100,11 @@ pub fn segment_at(roof: Roof, code: u8, sk: u32, i: usize) -> Segment
 // The roof's end in quarter millimetres.
 pub fn roof_end(roof: Roof) -> u32 {
     let shape = roof.shape;
-    let slopes = roof.slopes;
+    let spans = roof.spans;
     match shape {
         Shape::Monopitch { slope, .. } => quarters(slope.width),
         Shape::Pitched { left, right, .. } => quarters(sum(left.width, right.width)),
-        Shape::MultiSpan { count } => slope_start(&slopes, slope_count(count)),
+        Shape::MultiSpan { count, .. } => slope_start(&spans, slope_count(count)),
         Shape::Cylindrical { span, .. } => quarters(span),
         Shape::Abutting { b2, .. } => quarters(b2),
         Shape::Projection { left, right, .. } => quarters(sum(left, right)),

@@ -1,4 +1,5 @@
-// The loads of the second calculation: μ × Ce × Ct × sk, times Cesl in the accidental codes, and rounded up.
+// The loads of the second calculation: μ × Ce × Ct × sk, times Cesl in the accidental codes, μ × sk in the drifts of
+// Annex B, and rounded up.
 use figures::Site;
 use second_numbers::Ratio;
 use second_numbers::Segment;
@@ -15,17 +16,26 @@ use second_numbers::whole;
 
 const MILLION: u32 = 1_000_000;
 
-// The ground load and Ce × Ct × Cesl in millionths, with Cesl = 1 in the codes below 11.
+// The ground load and the factor on μ × sk in millionths.
 pub struct Ground {
     pub factor: u32,
     pub sk: u32,
 }
 
-pub fn ground_of(site: Site, code: u8) -> Ground {
+// Ce × Ct below code 11, Ce × Ct × Cesl in 11 to 13; in the drifts of Annex B, codes above 30, none of the three plays a
+// part.
+fn factor_of(site: Site, code: u8) -> u32 {
+    if 30 < code {
+        return MILLION;
+    }
     let usual = multiple(site.ce as u32, site.ct as u32);
     let falls = if code < 11 { 100 } else { site.cesl as u32 };
+    multiple(usual, falls)
+}
+
+pub fn ground_of(site: Site, code: u8) -> Ground {
     Ground {
-        factor: multiple(usual, falls),
+        factor: factor_of(site, code),
         sk: site.sk,
     }
 }

@@ -28,7 +28,7 @@ fn reaches(b: Ratio, a: Ratio) -> bool {
     not_above(times(whole(a.num), b.den), times(whole(b.num), a.den))
 }
 
-fn smaller(a: Ratio, b: Ratio) -> Ratio {
+pub fn smaller(a: Ratio, b: Ratio) -> Ratio {
     if reaches(b, a) { a } else { b }
 }
 

@@ -16,6 +16,7 @@ pub use coefficient::halved;
 pub use coefficient::in_valley;
 pub use coefficient::on_arch;
 pub use coefficient::on_slope;
+pub use coefficient::smaller;
 pub use figure::difference;
 pub use figure::multiple;
 pub use figure::quarters;

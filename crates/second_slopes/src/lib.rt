@@ -1,6 +1,6 @@
 // The second calculation, kinds 2, 3 and 4: roofs of slopes.
 ghost use Prim.Native.Nat.{_≤_, _<_};
-use figures::SLOPE_NUMBERS;
+use figures::SPAN_NUMBERS;
 use figures::Slope;
 use second_numbers::Ratio;
 use second_numbers::Segment;
@@ -36,23 +36,23 @@ pub fn on_right(left: Slope, right: Slope, guard: u8, code: u8) -> Segment {
 }
 
 // The slope at an index, from the left, from its two numbers: even ones rise to a ridge, odd ones fall to a valley.
-fn slope_at(slopes: &[u32; SLOPE_NUMBERS], i: usize) -> Slope
+fn slope_at(spans: &[u32; SPAN_NUMBERS], i: usize) -> Slope
     requires { ⌜ i < 32 ⌝ }
 {
     Slope {
-        pitch: slopes[2 * i],
-        width: slopes[2 * i + 1],
+        pitch: spans[2 * i],
+        width: spans[2 * i + 1],
     }
 }
 
 // Where the slope at an index starts.
-pub fn slope_start(slopes: &[u32; SLOPE_NUMBERS], i: usize) -> u32
+pub fn slope_start(spans: &[u32; SPAN_NUMBERS], i: usize) -> u32
     requires { ⌜ i ≤ 32 ⌝ }
 {
     let mut start = 0;
     let mut k = 0;
     while k < i {
-        let slope = slope_at(slopes, k);
+        let slope = slope_at(spans, k);
         start = sum(start, quarters(slope.width));
         k += 1;
     }
@@ -60,26 +60,26 @@ pub fn slope_start(slopes: &[u32; SLOPE_NUMBERS], i: usize) -> u32
 }
 
 // Kind 4, code 2, between the first slope and the last: μ1 at the ridge, μ2 of the mean of the two pitches at the valley.
-fn to_valley(slopes: &[u32; SLOPE_NUMBERS], i: usize, start: u32, end: u32) -> Segment
+fn to_valley(spans: &[u32; SPAN_NUMBERS], i: usize, start: u32, end: u32) -> Segment
     requires { ⌜ (0 < i) × (i < 31) ⌝ }
 {
-    let slope = slope_at(slopes, i);
+    let slope = slope_at(spans, i);
     let ridge = on_slope(slope.pitch, 0);
     if i % 2 == 0 {
-        let before = slope_at(slopes, i - 1);
+        let before = slope_at(spans, i - 1);
         uncut(start, end, in_valley(before.pitch, slope.pitch), ridge)
     } else {
-        let after = slope_at(slopes, i + 1);
+        let after = slope_at(spans, i + 1);
         uncut(start, end, ridge, in_valley(slope.pitch, after.pitch))
     }
 }
 
 // Kind 4: code 1 and the two outer slopes are even at μ1.
-pub fn on_spans(slopes: &[u32; SLOPE_NUMBERS], count: usize, code: u8, i: usize) -> Segment
+pub fn on_spans(spans: &[u32; SPAN_NUMBERS], count: usize, code: u8, i: usize) -> Segment
     requires { ⌜ (i < 32) × (count ≤ 32) ⌝ }
 {
-    let slope = slope_at(slopes, i);
-    let start = slope_start(slopes, i);
+    let slope = slope_at(spans, i);
+    let start = slope_start(spans, i);
     let end = sum(start, quarters(slope.width));
     let plain = even(start, end, on_slope(slope.pitch, 0));
     if code == 1 {
@@ -91,5 +91,5 @@ pub fn on_spans(slopes: &[u32; SLOPE_NUMBERS], count: usize, code: u8, i: usize)
     if count <= i + 1 {
         return plain;
     }
-    to_valley(slopes, i, start, end)
+    to_valley(spans, i, start, end)
 }

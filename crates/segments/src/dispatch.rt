@@ -6,30 +6,31 @@ ghost use Rattle.loads.specs.Sizes.{Ground};
 ghost use Rattle.ramps.specs.Ramps.{rampOf, RampIn};
 ghost use Rattle.standard.specs.Arrangements.{countIn, stretchIn, endIn};
 ghost use Rattle.standard.specs.Bounds.{NationalIn};
+use crate::spans::spans_count;
+use crate::spans::spans_ramp;
 use drift_ramps::abutting_count;
 use drift_ramps::abutting_ramp;
 use drift_ramps::cylindrical_count;
 use drift_ramps::cylindrical_ramp;
 use drift_ramps::projection_count;
 use drift_ramps::projection_ramp;
-use figures::SLOPE_NUMBERS;
+use figures::SPAN_NUMBERS;
 use figures::Shape;
 use ramps::Ramp;
-use slope_ramps::multi_span_ramp;
 use slope_ramps::pitched_ramp;
 use slope_ramps::slope_ramp;
-use slope_ramps::widths_of;
+use slope_ramps::widths_between;
 use standard::National;
 
 // The number of segments of a persistent code.
-pub fn count_in(national: National, shape: Shape, slopes: &[u32; SLOPE_NUMBERS], code: u8) -> usize
-    requires { ⌜ NationalIn national × ShapeIn shape (now slopes) ⌝ }
+pub fn count_in(national: National, shape: Shape, spans: &[u32; SPAN_NUMBERS], code: u8) -> usize
+    requires { ⌜ NationalIn national × ShapeIn shape (now spans) ⌝ }
     ensures { λ r. ⌜ (r ≡ countIn national shape code) × (r ≤ 32) ⌝ }
 {
     match shape {
         Shape::Monopitch { .. } => 1,
         Shape::Pitched { .. } => 2,
-        Shape::MultiSpan { count } => 2 * (count as usize),
+        Shape::MultiSpan { count, drifts: _ } => spans_count(count, code),
         Shape::Cylindrical { rise, span } => cylindrical_count(rise as u64, span as u64, code == 1),
         Shape::Abutting {
             b1: _,
@@ -50,14 +51,14 @@ pub fn count_in(national: National, shape: Shape, slopes: &[u32; SLOPE_NUMBERS],
 pub fn ramp_in(
     national: National,
     shape: Shape,
-    slopes: &[u32; SLOPE_NUMBERS],
+    spans: &[u32; SPAN_NUMBERS],
     code: u8,
     factor: u64,
     sk: u64,
     i: usize,
 ) -> Ramp
-    requires { ⌜ NationalIn national × ShapeIn shape (now slopes) × Ground factor sk × (i < countIn national shape code) ⌝ }
-    ensures { λ r. ⌜ (r ≡ rampOf (stretchIn national shape (now (slopes .entry)) factor sk code i)) × RampIn r ⌝ }
+    requires { ⌜ NationalIn national × ShapeIn shape (now spans) × Ground factor sk × (i < countIn national shape code) ⌝ }
+    ensures { λ r. ⌜ (r ≡ rampOf (stretchIn national shape (now (spans .entry)) factor sk code i)) × RampIn r ⌝ }
 {
     match shape {
         Shape::Monopitch { slope, guard } => slope_ramp(slope, guard, false, factor, sk),
@@ -67,14 +68,7 @@ pub fn ramp_in(
             left_guard,
             right_guard,
         } => pitched_ramp(left, right, left_guard, right_guard, code, factor, sk, i),
-        Shape::MultiSpan { count } => multi_span_ramp(
-            slopes,
-            count as usize,
-            code == 1,
-            factor,
-            sk,
-            i,
-        ),
+        Shape::MultiSpan { count, drifts: _ } => spans_ramp(spans, count, code, factor, sk, i),
         Shape::Cylindrical { rise, span } => cylindrical_ramp(
             national,
             rise as u64,
@@ -114,9 +108,9 @@ pub fn ramp_in(
 }
 
 // The roof's length in quarter millimetres.
-pub fn end(shape: Shape, slopes: &[u32; SLOPE_NUMBERS]) -> u64
-    requires { ⌜ ShapeIn shape (now slopes) ⌝ }
-    ensures { λ r. ⌜ r ≡ endIn shape (now (slopes .entry)) ⌝ }
+pub fn end(shape: Shape, spans: &[u32; SPAN_NUMBERS]) -> u64
+    requires { ⌜ ShapeIn shape (now spans) ⌝ }
+    ensures { λ r. ⌜ r ≡ endIn shape (now (spans .entry)) ⌝ }
 {
     match shape {
         Shape::Monopitch { slope, guard: _ } => 4 * (slope.width as u64),
@@ -126,7 +120,7 @@ pub fn end(shape: Shape, slopes: &[u32; SLOPE_NUMBERS]) -> u64
             left_guard: _,
             right_guard: _,
         } => 4 * (left.width as u64 + right.width as u64),
-        Shape::MultiSpan { count } => 4 * widths_of(slopes, 2 * (count as usize)),
+        Shape::MultiSpan { count, drifts: _ } => 4 * widths_between(spans, 0, 2 * (count as usize)),
         Shape::Cylindrical { rise: _, span } => 4 * (span as u64),
         Shape::Abutting {
             b1: _,

@@ -1,6 +1,7 @@
 // The ramp that each segment is cut from, by its index, for every kind of roof; how many segments an arrangement has, and where
 // the roof ends. These calls are for the crates above: what they require, accepted figures keep.
 mod dispatch;
+mod spans;
 
 ghost use mathlib.Core.Path.{_≡_};
 ghost use Prim.Native.Nat.{_≤_, _<_};
@@ -9,7 +10,8 @@ ghost use Rattle.ramps.specs.Ramps.{rampOf, RampIn};
 ghost use Rattle.standard.specs.Arrangements.{stretch};
 ghost use Rattle.standard.specs.Bounds.{FiguresIn};
 pub use dispatch::end;
-use figures::SLOPE_NUMBERS;
+pub use dispatch::ramp_in;
+use figures::SPAN_NUMBERS;
 use figures::Shape;
 use figures::Site;
 pub use ramps::Ramp;
@@ -21,13 +23,13 @@ pub fn count(
     national: National,
     site: Site,
     shape: Shape,
-    slopes: &[u32; SLOPE_NUMBERS],
+    spans: &[u32; SPAN_NUMBERS],
     code: u8,
 ) -> usize
-    requires { ⌜ FiguresIn national site (roofOf shape (now slopes)) ⌝ }
-    ensures { λ r. ⌜ (r ≡ Rattle.standard.specs.Arrangements.count national (roofOf shape (now (slopes .entry))) code) × (r ≤ 32) ⌝ }
+    requires { ⌜ FiguresIn national site (roofOf shape (now spans)) ⌝ }
+    ensures { λ r. ⌜ (r ≡ Rattle.standard.specs.Arrangements.count national (roofOf shape (now (spans .entry))) code) × (r ≤ 32) ⌝ }
 {
-    dispatch::count_in(national, shape, slopes, codes::base_code(code))
+    dispatch::count_in(national, shape, spans, codes::base_code(code))
 }
 
 // The ramp of the segment at an index of an arrangement, with its break loads.
@@ -35,14 +37,14 @@ pub fn ramp_at(
     national: National,
     site: Site,
     shape: Shape,
-    slopes: &[u32; SLOPE_NUMBERS],
+    spans: &[u32; SPAN_NUMBERS],
     code: u8,
     i: usize,
 ) -> Ramp
-    requires { ⌜ FiguresIn national site (roofOf shape (now slopes)) × (i < Rattle.standard.specs.Arrangements.count national (roofOf shape (now slopes)) code) ⌝ }
-    ensures { λ r. ⌜ (r ≡ rampOf (stretch national site (roofOf shape (now (slopes .entry))) code i)) × RampIn r ⌝ }
+    requires { ⌜ FiguresIn national site (roofOf shape (now spans)) × (i < Rattle.standard.specs.Arrangements.count national (roofOf shape (now spans)) code) ⌝ }
+    ensures { λ r. ⌜ (r ≡ rampOf (stretch national site (roofOf shape (now (spans .entry))) code i)) × RampIn r ⌝ }
 {
     let base = codes::base_code(code);
     let factor = codes::factor(site, code);
-    dispatch::ramp_in(national, shape, slopes, base, factor, site.sk as u64, i)
+    dispatch::ramp_in(national, shape, spans, base, factor, site.sk as u64, i)
 }

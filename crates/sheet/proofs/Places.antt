@@ -6,9 +6,9 @@ use mathlib.Core.Logic.{inl, inr}
 use denote.Enum.Declared
 use native.Mathlib.Omega.{arith}
 use types.Run.{OneOf}
-use Rattle.items.proofs.decoding.Item as the-item
-use Rattle.items.specs.declared.decoding.Item.{Item}
-use Rattle.items.specs.declared.decoding.Item.the-variants.{SiteItem, RoofItem, Malformed}
+use Rattle.item_forms.proofs.Item as the-item
+use Rattle.item_forms.specs.declared.Item.{Item}
+use Rattle.item_forms.specs.declared.Item.the-variants.{SiteItem, RoofItem, Malformed}
 use Rattle.sheet.specs.Figures.{noSite, noRoof, siteBy, roofBy}
 use Rattle.sheet.specs.Sheet.{misplaced, ruleNumber}
 

@@ -1,20 +1,21 @@
--- The figures that an item says: a site, or a roof with the slopes beside it.
+-- The figures that an item says: a site, or a roof with the spans beside it.
 use Prim.Native.Nat.{ℕ}
+use mathlib.Core.Bool.{false}
 use mathlib.Core.List.{List}
-use Rattle.figures.specs.RoofRules.{noSlopes, roofOf}
+use Rattle.figures.specs.RoofRules.{noSpans, roofOf}
 use Rattle.figures.specs.declared.site.Site.{Site}
 use Rattle.figures.specs.declared.roof.Shape.the-variants.{MultiSpan}
 use Rattle.figures.specs.declared.roof.Roof.{Roof}
 use Rattle.map_sites.specs.Sites.{siteFrom}
-use Rattle.items.specs.declared.decoding.Item.{Item}
-use Rattle.items.specs.declared.decoding.Item.the-variants.{SiteItem, RoofItem, Malformed}
+use Rattle.item_forms.specs.declared.Item.{Item}
+use Rattle.item_forms.specs.declared.Item.the-variants.{SiteItem, RoofItem, Malformed}
 
 -- a site and a roof of zeros, where there is none
 abbrev pub noSite : Site
 noSite = record { sk = 0; ce = 0; ct = 0; cesl = 0; situation = 0; altitude = 0 }
 
 abbrev pub noRoof : Roof
-noRoof = roofOf (MultiSpan 0) noSlopes
+noRoof = roofOf (MultiSpan 0 false) noSpans
 
 -- the site that an item says, from its ground load or from the map
 abbrev pub siteBy : Item → Site
@@ -22,8 +23,8 @@ siteBy (SiteItem fields) = siteFrom fields
 siteBy (RoofItem shape) = noSite
 siteBy (Malformed number) = noSite
 
--- the roof that an item says, with the slopes beside it
+-- the roof that an item says, with the spans beside it
 abbrev pub roofBy : Item → List ℕ → Roof
-roofBy (SiteItem fields) slopes = noRoof
-roofBy (RoofItem shape) slopes = roofOf shape slopes
-roofBy (Malformed number) slopes = noRoof
+roofBy (SiteItem fields) spans = noRoof
+roofBy (RoofItem shape) spans = roofOf shape spans
+roofBy (Malformed number) spans = noRoof

@@ -8,9 +8,9 @@ use lib.ListN.{length, take, drop}
 use Rattle.figures.specs.RoofRules.{shapeRefusal}
 use Rattle.map_sites.specs.Sites.{siteDataRefusal}
 use Rattle.items.specs.Items.{content}
-use Rattle.items.specs.declared.decoding.Item.{Item}
-use Rattle.items.specs.declared.decoding.Item.the-variants.{SiteItem, RoofItem, Malformed}
-use Rattle.items.specs.declared.decoding.Decoded.{Decoded}
+use Rattle.item_forms.specs.declared.Item.{Item}
+use Rattle.item_forms.specs.declared.Item.the-variants.{SiteItem, RoofItem, Malformed}
+use Rattle.item_forms.specs.declared.Decoded.{Decoded}
 use Rattle.pairs.specs.Pairs.{Answer, accepted, refused, count, offset, size, inTurn, pairsVerdict}
 use Rattle.pairs.specs.declared.Ceiling.{Ceiling}
 use Rattle.sheet.specs.declared.reader.Located.{Located}
@@ -23,14 +23,14 @@ part s i = take (size s i) (drop (offset s i) s)
 -- the first rule that an item at an index breaks, 0 where it breaks none: the refusal of its form, then
 -- "5 first item no site, or a later site", then the value rules 6 to 10, 14 and 15
 abbrev pub ruleNumber : ℕ → Item → List ℕ → ℕ
-ruleNumber index (Malformed number) slopes = number
-ruleNumber zero (SiteItem fields) slopes = siteDataRefusal fields
-ruleNumber (suc index) (SiteItem fields) slopes = 5
-ruleNumber zero (RoofItem shape) slopes = 5
-ruleNumber (suc index) (RoofItem shape) slopes = shapeRefusal shape slopes
+ruleNumber index (Malformed number) spans = number
+ruleNumber zero (SiteItem fields) spans = siteDataRefusal fields
+ruleNumber (suc index) (SiteItem fields) spans = 5
+ruleNumber zero (RoofItem shape) spans = 5
+ruleNumber (suc index) (RoofItem shape) spans = shapeRefusal shape spans
 
 abbrev pub ruleOf : ℕ → Decoded → ℕ
-ruleOf index d = ruleNumber index (d .item) (d .slopes)
+ruleOf index d = ruleNumber index (d .item) (d .spans)
 
 -- the number of an item that may not stand where it does: the refusal of its form, or 5
 abbrev pub misplaced : Item → ℕ

@@ -59,7 +59,7 @@ fn later_number(p: &[u8]) -> u8
     let Item::RoofItem(shape) = item else {
         return misplaced_number(item);
     };
-    shape_refusal(shape, &decoded.slopes)
+    shape_refusal(shape, &decoded.spans)
 }
 
 // The first rule that the item at an index breaks, 0 where it breaks none.

@@ -11,9 +11,11 @@ use Rattle.figures.specs.declared.site.Ground.the-variants.{OnMap}
 use Rattle.figures.specs.declared.site.SiteData.{SiteData}
 use Rattle.map_sites.proofs.Kept.{site-accepted}
 use Rattle.map_sites.specs.Sites.{skOf, asGiven, siteDataRefusal}
-use Rattle.items.specs.Items.{sized, siteDataAt, siteItem, mapSiteItem, byKind, content}
-use Rattle.items.specs.declared.decoding.Item.{Item}
-use Rattle.items.specs.declared.decoding.Item.the-variants.{SiteItem}
+use Rattle.items.specs.Items.{byKind, content}
+use Rattle.site_items.specs.SiteItems.{siteDataAt, siteItem, mapSiteItem}
+use Rattle.item_forms.specs.Forms.{sized}
+use Rattle.item_forms.specs.declared.Item.{Item}
+use Rattle.item_forms.specs.declared.Item.the-variants.{SiteItem}
 use Rattle.little_endian.specs.Numbers.{byteAt}
 use Rattle.pairs.specs.Pairs.{Answer, accepted, refused, terminals, offset, size, inTurn}
 use Rattle.sheet.proofs.Kept.{pairs-kept, sheet-kept, sheet-items}
@@ -62,12 +64,12 @@ module _ (s t : List ℕ) (n : ℕ) (g : GivenLoad s t n) where
 
   kept : siteDataRefusal d ≡ 0
   unfolding itemNumber
-  kept = sym (ap (λ (x : Item). ruleNumber 0 x (content (part s 0) .slopes)) site) ∙ g .sound
+  kept = sym (ap (λ (x : Item). ruleNumber 0 x (content (part s 0) .spans)) site) ∙ g .sound
 
   same-number : (i : ℕ) → 0 ≤ i → i < 0 + n → itemNumber s i ≡ itemNumber t i
   unfolding itemNumber siteDataRefusal
   same-number zero a b =
-      g .sound ∙ sym (ap (λ (x : Item). ruleNumber 0 x (content (part t 0) .slopes)) given-site ∙ site-accepted d kept)
+      g .sound ∙ sym (ap (λ (x : Item). ruleNumber 0 x (content (part t 0) .spans)) given-site ∙ site-accepted d kept)
   same-number (suc i) a b = rw (g .others (suc i) (omega arith) (omega arith))
 
   pub same-verdict : sheetVerdict terminals s ≡ sheetVerdict terminals t

@@ -10,9 +10,9 @@ use Rattle.figures.specs.declared.roof.Roof.{Roof}
 use Rattle.map_sites.proofs.Kept.{site-accepted}
 use Rattle.items.proofs.Numbered.{Numbered, numbered}
 use Rattle.items.specs.Items.{content}
-use Rattle.items.specs.declared.decoding.Item.{Item}
-use Rattle.items.specs.declared.decoding.Item.the-variants.{SiteItem, RoofItem, Malformed}
-use Rattle.items.specs.declared.decoding.Decoded.{Decoded}
+use Rattle.item_forms.specs.declared.Item.{Item}
+use Rattle.item_forms.specs.declared.Item.the-variants.{SiteItem, RoofItem, Malformed}
+use Rattle.item_forms.specs.declared.Decoded.{Decoded}
 use Rattle.sheet.proofs.Kept.{located-in}
 use Rattle.sheet_figures.specs.Find.{sheetSite, sheetRoof, foundIn, foundBy, found}
 use Rattle.pairs.specs.Pairs.{Answer, accepted, refused, terminals}
@@ -33,11 +33,11 @@ roof-by i (Malformed number) l n e = absurd (omega arith)
 module _ (s : List ℕ) where
   pub site-sound : itemNumber s 0 ≡ 0 → siteRefusal (sheetSite s) ≡ 0
   unfolding itemNumber sheetSite
-  site-sound e = site-by (content (part s 0) .item) (content (part s 0) .slopes) (numbered (part s 0)) e
+  site-sound e = site-by (content (part s 0) .item) (content (part s 0) .spans) (numbered (part s 0)) e
 
   roof-after : (i : ℕ) → itemNumber s (suc i) ≡ 0 → roofRefusal (sheetRoof s (suc i)) ≡ 0
   unfolding itemNumber sheetRoof
-  roof-after i e = roof-by i (content (part s (suc i)) .item) (content (part s (suc i)) .slopes) (numbered (part s (suc i))) e
+  roof-after i e = roof-by i (content (part s (suc i)) .item) (content (part s (suc i)) .spans) (numbered (part s (suc i))) e
 
   pub roof-sound : (i : ℕ) → 0 < i → itemNumber s i ≡ 0 → roofRefusal (sheetRoof s i) ≡ 0
   roof-sound zero h e = absurd (omega arith)
@@ -56,7 +56,7 @@ module _ (s : List ℕ) where
         (g, rw g (site-sound h))
 
     pub roof-is :
-        (r : Roof) (i : ℕ) → p ≡ part s i → r ≡ roofBy (d .item) (d .slopes) → 0 < i → itemNumber s i ≡ 0
+        (r : Roof) (i : ℕ) → p ≡ part s i → r ≡ roofBy (d .item) (d .spans) → 0 < i → itemNumber s i ≡ 0
         → (r ≡ sheetRoof s i) × (roofRefusal r ≡ 0)
     unfolding sheetRoof
     roof-is r i e f pos h =

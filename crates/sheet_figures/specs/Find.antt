@@ -15,7 +15,7 @@ unfoldable pub sheetSite : List ℕ → Site
 sheetSite s = siteBy (content (part s 0) .item)
 
 unfoldable pub sheetRoof : List ℕ → ℕ → Roof
-sheetRoof s i = roofBy (content (part s i) .item) (content (part s i) .slopes)
+sheetRoof s i = roofBy (content (part s i) .item) (content (part s i) .spans)
 
 -- what an accepted sheet has at an index: its first item is the site, and no roof
 abbrev pub foundIn : List ℕ → ℕ → Found

@@ -7,7 +7,7 @@ ghost use Rattle.sheet.specs.Figures.{noSite, noRoof, siteBy, roofBy};
 ghost use Rattle.sheet.specs.Sheet.{ItemIn, ruleOf};
 ghost use Rattle.sheet_figures.specs.Find.{sheetSite, sheetRoof, foundIn, found};
 use figures::Roof;
-use figures::SLOPE_NUMBERS;
+use figures::SPAN_NUMBERS;
 use figures::Shape;
 use figures::Site;
 use items::Decoded;
@@ -50,8 +50,11 @@ fn no_roof() -> Roof
     ensures { λ r. ⌜ r ≡ noRoof ⌝ }
 {
     Roof {
-        shape: Shape::MultiSpan { count: 0 },
-        slopes: [0; SLOPE_NUMBERS],
+        shape: Shape::MultiSpan {
+            count: 0,
+            drifts: false,
+        },
+        spans: [0; SPAN_NUMBERS],
     }
 }
 
@@ -69,16 +72,16 @@ fn site_of(decoded: Decoded) -> Site
 
 // The roof that an item says.
 fn roof_of(decoded: Decoded) -> Roof
-    ensures { λ r. ⌜ r ≡ roofBy (decoded .item) (decoded .slopes) ⌝ }
+    ensures { λ r. ⌜ r ≡ roofBy (decoded .item) (decoded .spans) ⌝ }
 {
     let item = decoded.item;
-    let slopes = decoded.slopes;
+    let spans = decoded.spans;
     let Item::RoofItem(shape) = item else {
         return no_roof();
     };
     Roof {
         shape: shape,
-        slopes: slopes,
+        spans: spans,
     }
 }
 

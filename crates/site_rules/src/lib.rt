@@ -24,7 +24,7 @@ pub fn other_fields(ce: u16, ct: u16, cesl: u16, situation: u8) -> bool
     ((80 <= ce) & (ce <= 120))
         & ((1 <= ct) & (ct <= 100))
         & ((100 <= cesl) & (cesl <= 300))
-        & (situation <= 1)
+        & (situation <= 3)
 }
 
 // Whether every field but the altitude lies in its range.

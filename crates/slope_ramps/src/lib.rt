@@ -6,5 +6,5 @@ mod pitched;
 
 pub use monopitch::slope_ramp;
 pub use multi_span::multi_span_ramp;
-pub use multi_span::widths_of;
+pub use multi_span::widths_between;
 pub use pitched::pitched_ramp;

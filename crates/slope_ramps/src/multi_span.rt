@@ -8,7 +8,7 @@ ghost use Rattle.figures.specs.RoofRules.{slopeOf};
 ghost use Rattle.loads.specs.Sizes.{Ground};
 ghost use Rattle.ramps.specs.Ramps.{rampOf, RampIn};
 ghost use Rattle.standard.specs.MultiSpan.{multiSpan, widths};
-use figures::SLOPE_NUMBERS;
+use figures::SPAN_NUMBERS;
 use figures::slope_at;
 use ramps::Ramp;
 use ramps::even;
@@ -25,23 +25,23 @@ fn across(i: usize) -> usize
 // The stretch at an index: one slope. But for the first and the last, a left slope has its valley at its left end, a right
 // slope at its right end.
 pub fn multi_span_ramp(
-    slopes: &[u32; SLOPE_NUMBERS],
+    spans: &[u32; SPAN_NUMBERS],
     count: usize,
     undrifted: bool,
     factor: u64,
     sk: u64,
     i: usize,
 ) -> Ramp
-    requires { ⌜ Ground factor sk × (count ≤ 16) × (i < 2 * count) × SlopeIn (slopeOf (now slopes) i) ⌝ }
-    ensures { λ r. ⌜ (r ≡ rampOf (multiSpan factor sk (now (slopes .entry)) count undrifted i)) × RampIn r ⌝ }
+    requires { ⌜ Ground factor sk × (count ≤ 16) × (i < 2 * count) × SlopeIn (slopeOf (now spans) i) ⌝ }
+    ensures { λ r. ⌜ (r ≡ rampOf (multiSpan factor sk (now (spans .entry)) count undrifted i)) × RampIn r ⌝ }
 {
-    let slope = slope_at(slopes, i);
+    let slope = slope_at(spans, i);
     let extent = 4 * (slope.width as u64);
     let own = loads::slope_load(slope, 0, false, factor, sk);
     if undrifted | (i == 0) | (i + 1 == 2 * count) {
         return even(extent, own);
     }
-    let other = slope_at(slopes, across(i));
+    let other = slope_at(spans, across(i));
     let valley = loads::valley_load(slope.pitch, other.pitch, factor, sk);
     if i % 2 == 0 {
         return whole(extent, valley, own);
@@ -49,15 +49,15 @@ pub fn multi_span_ramp(
     whole(extent, own, valley)
 }
 
-// The widths of the first n slopes together.
-pub fn widths_of(slopes: &[u32; SLOPE_NUMBERS], n: usize) -> u64
-    requires { ⌜ n ≤ 32 ⌝ }
-    ensures { λ r. ⌜ (r ≡ widths (now (slopes .entry)) n) × (r ≤ 4294967295 * 32) ⌝ }
+// The widths together of the slopes from one on, up to another.
+pub fn widths_between(spans: &[u32; SPAN_NUMBERS], from: usize, to: usize) -> u64
+    requires { ⌜ (from ≤ to) × (to ≤ 32) ⌝ }
+    ensures { λ r. ⌜ (widths (now (spans .entry)) from + r ≡ widths (now (spans .entry)) to) × (r ≤ 4294967295 * 32) ⌝ }
 {
     let mut sum: u64 = 0;
-    let mut i = 0;
-    while i < n {
-        let slope = slope_at(slopes, i);
+    let mut i = from;
+    while i < to {
+        let slope = slope_at(spans, i);
         sum += slope.width as u64;
         i += 1;
     }

@@ -6,10 +6,10 @@ ghost use lib.ListN.{length};
 const SHEET_ROOM: usize = 16_385;
 
 // Room for the text.
-fn text_room() -> [u8; 275557]
-    ensures { λ r. ⌜ 275557 ≡ length r ⌝ }
+fn text_room() -> [u8; 267373]
+    ensures { λ r. ⌜ 267373 ≡ length r ⌝ }
 {
-    [0; 275557]
+    [0; 267373]
 }
 
 // Whether the input has ended, where reading stopped before the room was full. It says so where it has not.

@@ -10,28 +10,32 @@ use native.Mathlib.Nat.{mul-pos}
 use native.Mathlib.Omega.{arith}
 use Rattle.figures.specs.Bounds.{SiteIn, ShapeIn}
 use Rattle.figures.specs.SiteRules.{siteRefusal}
-use Rattle.figures.specs.RoofRules.{kindOf, roofRefusal}
+use Rattle.figures.specs.RoofRules.{kindOf, spanCount, roofRefusal}
 use Rattle.figures.specs.declared.site.Site.{Site}
 use Rattle.figures.specs.declared.roof.Shape.{Shape}
 use Rattle.figures.specs.declared.roof.Shape.the-variants.{Monopitch, Pitched, MultiSpan, Cylindrical, Abutting, Projection}
 use Rattle.figures.specs.declared.roof.Roof.{Roof}
 use Rattle.figures.proofs.Accepted.{site-in, shape-in}
+use Rattle.figures.proofs.Laws.{within-in}
 use Rattle.rounding.specs.Load.{breakLoad}
 use Rattle.standard.specs.Bounds.{NationalIn}
-use Rattle.standard.specs.Codes.{persistentIn, accidental, baseCode, severalSlopes}
+use Rattle.standard.specs.Codes.{accidental, baseCode, namesValley, severalSlopes}
 use Rattle.standard.specs.Coefficients.{recommendedFigures}
 use Rattle.standard.specs.Stretch.{startOf, greatest, Near}
 use Rattle.standard.specs.Arrangements.{factorOf, countIn, stretchIn, rampedIn, endIn, exists, count, stretch, endOf, loadAt, exactAt}
 use Rattle.standard.specs.Units.{parts, largestPosition}
+use Rattle.standard.specs.ValleyDrift.{spansCount}
 use Rattle.standard.specs.declared.National.{National}
 use Rattle.standard.proofs.Runs.{Held, ReadHeld, ExactHeld, Rises, Level, WellFormed}
 use Rattle.standard.proofs.Runs.{near-greatest, covered, one-reads, one-exact, starts-within, rise-greatest}
+use Rattle.standard.proofs.Codes.{named-base}
 use Rattle.standard.proofs.Monopitch.{monopitch-formed, monopitch-rises, monopitch-level}
 use Rattle.standard.proofs.Pitched.{pitched-formed, pitched-rises, pitched-level}
-use Rattle.standard.proofs.MultiSpan.{widths-most, multi-span-formed, multi-span-rises, multi-span-level}
+use Rattle.standard.proofs.MultiSpan.{widths-most}
 use Rattle.standard.proofs.Cylindrical.{cylindrical-formed, cylindrical-rises, cylindrical-level, cylindrical-apart}
 use Rattle.standard.proofs.Abutting.{abutting-formed, abutting-rises, abutting-level, abutting-apart}
 use Rattle.standard.proofs.Projection.{projection-formed, projection-rises, projection-level, projection-apart}
+use Rattle.standard.proofs.ValleyDrift.{spans-formed, spans-rises, spans-level, drift-alike, drift-apart}
 
 pub recommended-in : NationalIn recommendedFigures
 recommended-in =
@@ -44,68 +48,74 @@ recommended-in =
     }
 
 -- kind by kind
-module _ (national : National) (slopes : List ℕ) (factor code : ℕ) where
+module _ (national : National) (spans : List ℕ) (factor code : ℕ) where
   formed-in :
-      (shape : Shape) (sk : ℕ) → 0 < sk → 0 < national .short → ShapeIn shape slopes
-      → WellFormed (stretchIn national shape slopes factor sk code) (countIn national shape code) (endIn shape slopes)
+      (shape : Shape) (sk : ℕ) → 0 < sk → 0 < national .short → ShapeIn shape spans
+      → WellFormed (stretchIn national shape spans factor sk code) (countIn national shape code) (endIn shape spans)
   unfolding stretchIn countIn endIn
   formed-in (Monopitch slope guard) sk hs hn f = monopitch-formed factor slope guard sk f
   formed-in (Pitched left right leftGuard rightGuard) sk hs hn f = pitched-formed factor left right leftGuard rightGuard code sk f
-  formed-in (MultiSpan count) sk hs hn f = multi-span-formed slopes factor count (eqb code 1) sk f
+  formed-in (MultiSpan count drifts) sk hs hn f = spans-formed spans factor count code sk f
   formed-in (Cylindrical rise span) sk hs hn f = cylindrical-formed national factor rise span (eqb code 1) sk f
   formed-in (Abutting b1 b2 h slope guard) sk hs hn f = abutting-formed national factor b1 b2 h slope guard (eqb code 1) sk hs hn f
   formed-in (Projection h left right) sk hs hn f = projection-formed factor h left right sk hs f
 
   rises-in :
-      (shape : Shape) (s t i : ℕ) → 0 < s → s ≤ t → ShapeIn shape slopes
-      → Rises (stretchIn national shape slopes factor s code i) (stretchIn national shape slopes factor t code i)
+      (shape : Shape) (s t i : ℕ) → 0 < s → s ≤ t → ShapeIn shape spans
+      → Rises (stretchIn national shape spans factor s code i) (stretchIn national shape spans factor t code i)
   unfolding stretchIn
   rises-in (Monopitch slope guard) s t i hs p f = monopitch-rises factor slope guard s t i p
   rises-in (Pitched left right leftGuard rightGuard) s t i hs p f = pitched-rises factor left right leftGuard rightGuard code s t i p
-  rises-in (MultiSpan count) s t i hs p f = multi-span-rises slopes factor count (eqb code 1) s t i p
+  rises-in (MultiSpan count drifts) s t i hs p f = spans-rises spans factor count code s t i p f
   rises-in (Cylindrical rise span) s t i hs p f = cylindrical-rises national factor rise span (eqb code 1) s t i p
   rises-in (Abutting b1 b2 h slope guard) s t i hs p f = abutting-rises national factor b1 b2 h slope guard (eqb code 1) s t i hs p (f .step .low)
   rises-in (Projection h left right) s t i hs p f = projection-rises factor h left right s t i hs p
 
-  level-in : (shape : Shape) (sk i : ℕ) → rampedIn national shape code i ≡ false → Level (stretchIn national shape slopes factor sk code i)
+  level-in : (shape : Shape) (sk i : ℕ) → rampedIn national shape code i ≡ false → Level (stretchIn national shape spans factor sk code i)
   unfolding stretchIn rampedIn
   level-in (Monopitch slope guard) sk i e = monopitch-level factor slope guard sk i
   level-in (Pitched left right leftGuard rightGuard) sk i e = pitched-level factor left right leftGuard rightGuard code sk i
-  level-in (MultiSpan count) sk i e = multi-span-level slopes factor count (eqb code 1) sk i (not-false _ e)
+  level-in (MultiSpan count drifts) sk i e = spans-level spans factor count code sk i e
   level-in (Cylindrical rise span) sk i e = cylindrical-level national factor rise span (eqb code 1) sk i e
   level-in (Abutting b1 b2 h slope guard) sk i e = abutting-level national factor b1 b2 h slope guard (eqb code 1) sk i e
   level-in (Projection h left right) sk i e = projection-level factor h left right sk i e
 
 -- no roof is longer than the largest position
-end-most : (shape : Shape) (slopes : List ℕ) → ShapeIn shape slopes → endIn shape slopes ≤ largestPosition
+end-most : (shape : Shape) (spans : List ℕ) → ShapeIn shape spans → endIn shape spans ≤ largestPosition
 unfolding endIn
-end-most (Monopitch slope guard) slopes f = omega (arith, f .slope .width .high)
-end-most (Pitched left right leftGuard rightGuard) slopes f = omega (arith, f .left .width .high, f .right .width .high)
-end-most (MultiSpan count) slopes f = omega (arith, widths-most slopes (2 * count) (f .slopes), f .count .high)
-end-most (Cylindrical rise span) slopes f = omega (arith, f .span .high)
-end-most (Abutting b1 b2 h slope guard) slopes f = omega (arith, f .lower .high)
-end-most (Projection h left right) slopes f = omega (arith, f .left .high, f .right .high)
+end-most (Monopitch slope guard) spans f = omega (arith, f .slope .width .high)
+end-most (Pitched left right leftGuard rightGuard) spans f = omega (arith, f .left .width .high, f .right .width .high)
+end-most (MultiSpan count drifts) spans f = omega (arith, widths-most spans (2 * count) (f .spans), f .count .high)
+end-most (Cylindrical rise span) spans f = omega (arith, f .span .high)
+end-most (Abutting b1 b2 h slope guard) spans f = omega (arith, f .lower .high)
+end-most (Projection h left right) spans f = omega (arith, f .left .high, f .right .high)
 
--- code 3, which one kind alone has, has two segments
-pub third-code : (national : National) (shape : Shape) → persistentIn (kindOf shape) 3 ≡ true → countIn national shape 3 ≤ 2
-unfolding countIn
-third-code national (Monopitch slope guard) h = let z : _≡_ {A = ℕ} 0 1 = cc in absurd (omega arith)
-third-code national (Pitched left right leftGuard rightGuard) h = omega arith
-third-code national (MultiSpan n) h = let z : _≡_ {A = ℕ} 0 1 = cc in absurd (omega arith)
-third-code national (Cylindrical rise span) h = let z : _≡_ {A = ℕ} 0 1 = cc in absurd (omega arith)
-third-code national (Abutting b1 b2 h slope guard) e = let z : _≡_ {A = ℕ} 0 1 = cc in absurd (omega arith)
-third-code national (Projection h left right) e = let z : _≡_ {A = ℕ} 0 1 = cc in absurd (omega arith)
+-- a pitched roof has two segments, and a drift in a valley four
+pub record Few (kind spans code n : ℕ) : Type 0 where
+  pub pitched : kind ≡ 3 → n ≤ 2
+  pub valley : kind ≡ 9 → namesValley spans code ≡ true → n ≤ 4
 
-module _ (national : National) (slopes : List ℕ) (factor sk code i : ℕ) (hf : 0 < factor) (hs : 0 < sk) where
+pub few-segments : (national : National) (shape : Shape) (code : ℕ) → Few (kindOf shape) (spanCount shape) code (countIn national shape code)
+unfolding countIn spansCount
+few-segments national (Monopitch slope guard) code = record { pitched = λ e. omega arith; valley = λ e n. omega arith }
+few-segments national (Pitched left right leftGuard rightGuard) code = record { pitched = λ e. omega arith; valley = λ e n. omega arith }
+few-segments national (MultiSpan count true) code = record { pitched = λ e. absurd (omega arith); valley = λ e n. rw n (omega arith) }
+few-segments national (MultiSpan count false) code = record { pitched = λ e. absurd (omega arith); valley = λ e n. absurd (omega arith) }
+few-segments national (Cylindrical rise span) code = record { pitched = λ e. absurd (omega arith); valley = λ e n. absurd (omega arith) }
+few-segments national (Abutting b1 b2 h slope guard) code = record { pitched = λ e. absurd (omega arith); valley = λ e n. absurd (omega arith) }
+few-segments national (Projection h left right) code = record { pitched = λ e. absurd (omega arith); valley = λ e n. absurd (omega arith) }
+
+module _ (national : National) (spans : List ℕ) (factor sk code i : ℕ) (hf : 0 < factor) (hs : 0 < sk) where
   apart-in :
-      (shape : Shape) → severalSlopes (kindOf shape) ≡ false → suc i < countIn national shape code
+      (shape : Shape) → severalSlopes (kindOf shape) (spanCount shape) code ≡ false → suc i < countIn national shape code
       → rampedIn national shape code i ≡ false → rampedIn national shape code (suc i) ≡ false
-      → breakLoad parts (stretchIn national shape slopes factor sk code i .from)
-      ≡ breakLoad parts (stretchIn national shape slopes factor sk code (suc i) .from) → ⊥
+      → breakLoad parts (stretchIn national shape spans factor sk code i .from)
+      ≡ breakLoad parts (stretchIn national shape spans factor sk code (suc i) .from) → ⊥
   unfolding stretchIn countIn rampedIn
   apart-in (Monopitch slope guard) k c e e' d = omega arith
   apart-in (Pitched left right leftGuard rightGuard) k c e e' d = let z : _≡_ {A = ℕ} 0 1 = cc in omega arith
-  apart-in (MultiSpan count) k c e e' d = let z : _≡_ {A = ℕ} 0 1 = cc in omega arith
+  apart-in (MultiSpan count true) k c e e' d = drift-apart count code i (not-false _ k) c e e'
+  apart-in (MultiSpan count false) k c e e' d = let z : _≡_ {A = ℕ} 0 1 = cc in omega arith
   apart-in (Cylindrical rise span) k c e e' d = cylindrical-apart national factor rise span (eqb code 1) sk i hf hs c e e' d
   apart-in (Abutting b1 b2 h slope guard) k c e e' d = abutting-apart national b2 h (eqb code 1) i c e
   apart-in (Projection h left right) k c e e' d = projection-apart h left right i c e e'
@@ -124,8 +134,8 @@ module _ (national : National) (site : Site) (roof : Roof) (code : ℕ)
   pub well-formed : WellFormed (stretch national site roof code) (count national roof code) (endOf roof)
   unfolding stretch count endOf
   well-formed =
-      formed-in national (roof .slopes) (factorOf site code) (baseCode code) (roof .shape) (site .sk)
-      (omega (arith, site-in site hs .sk .low)) (omega (arith, hn .short .low)) (shape-in (roof .shape) (roof .slopes) hr)
+      formed-in national (roof .spans) (factorOf site code) (baseCode code) (roof .shape) (site .sk)
+      (omega (arith, site-in site hs .sk .low)) (omega (arith, hn .short .low)) (shape-in (roof .shape) (roof .spans) hr)
 
   pub every-station : (p : ℕ) → p ≤ endOf roof → Held (stretch national site roof code) p (count national roof code)
   every-station p h =
@@ -148,7 +158,7 @@ module _ (national : National) (site : Site) (roof : Roof) (code : ℕ)
 
   pub end-in-range : endOf roof ≤ largestPosition
   unfolding endOf
-  end-in-range = end-most (roof .shape) (roof .slopes) (shape-in (roof .shape) (roof .slopes) hr)
+  end-in-range = end-most (roof .shape) (roof .spans) (shape-in (roof .shape) (roof .spans) hr)
 
   pub distance : (p : ℕ) → Near (loadAt national site roof code p) (exactAt national site roof code p)
   unfolding loadAt exactAt
@@ -176,34 +186,56 @@ pub rising :
     → Alike s t → s .sk ≤ t .sk → loadAt national s roof code p ≤ loadAt national t roof code p
 unfolding loadAt stretch count
 rising national s t roof code p hn hs hr a h =
-    let f = shape-in (roof .shape) (roof .slopes) hr in
+    let f = shape-in (roof .shape) (roof .spans) hr in
     let k = factorOf s code in
     let hk : 0 < s .sk = omega (arith, site-in s hs .sk .low) in
     let hl : 0 < national .short = omega (arith, hn .short .low) in
     let n = countIn national (roof .shape) (baseCode code) in
     subst
-    (λ (z : ℕ). greatest (stretchIn national (roof .shape) (roof .slopes) k (s .sk) (baseCode code)) p n
-    ≤ greatest (stretchIn national (roof .shape) (roof .slopes) z (t .sk) (baseCode code)) p n)
+    (λ (z : ℕ). greatest (stretchIn national (roof .shape) (roof .spans) k (s .sk) (baseCode code)) p n
+    ≤ greatest (stretchIn national (roof .shape) (roof .spans) z (t .sk) (baseCode code)) p n)
     (same-factor s t code a)
     (rise-greatest _ _ p n
-    (formed-in national (roof .slopes) k (baseCode code) (roof .shape) (s .sk) hk hl f .each)
-    (formed-in national (roof .slopes) k (baseCode code) (roof .shape) (t .sk) (omega arith) hl f .each)
-    (λ i b. rises-in national (roof .slopes) k (baseCode code) (roof .shape) (s .sk) (t .sk) i hk h f))
+    (formed-in national (roof .spans) k (baseCode code) (roof .shape) (s .sk) hk hl f .each)
+    (formed-in national (roof .spans) k (baseCode code) (roof .shape) (t .sk) (omega arith) hl f .each)
+    (λ i b. rises-in national (roof .spans) k (baseCode code) (roof .shape) (s .sk) (t .sk) i hk h f))
+
+-- "Ce and Ct play no part": the drift in a valley is that of any site with the same ground load
+module _ (national : National) (spans : List ℕ) (sk code i : ℕ) where
+  drift-in :
+      (shape : Shape) (factor other : ℕ) → namesValley (spanCount shape) code ≡ true
+      → stretchIn national shape spans factor sk code i ≡ stretchIn national shape spans other sk code i
+  unfolding stretchIn
+  drift-in (Monopitch slope guard) factor other n = absurd (omega (arith, within-in 31 29 code n))
+  drift-in (Pitched left right leftGuard rightGuard) factor other n = absurd (omega (arith, within-in 31 29 code n))
+  drift-in (MultiSpan count drifts) factor other n = drift-alike spans factor count code n sk other i
+  drift-in (Cylindrical rise span) factor other n = absurd (omega (arith, within-in 31 29 code n))
+  drift-in (Abutting b1 b2 h slope guard) factor other n = absurd (omega (arith, within-in 31 29 code n))
+  drift-in (Projection h left right) factor other n = absurd (omega (arith, within-in 31 29 code n))
+
+pub drift-alone :
+    (national : National) (s t : Site) (roof : Roof) (code i : ℕ) → namesValley (spanCount (roof .shape)) code ≡ true → s .sk ≡ t .sk
+    → stretch national s roof code i ≡ stretch national t roof code i
+unfolding stretch factorOf
+drift-alone national s t roof code i n e =
+    let b = named-base (spanCount (roof .shape)) code n in
+    rw (← e, b) (drift-in national (roof .spans) (s .sk) code i (roof .shape) (factorOf s code) (factorOf t code) n)
 
 -- every stretch that is not said to be a ramp is of one load, and neighbours of one load each differ in it
 module _ (national : National) (site : Site) (roof : Roof) (code i : ℕ) where
   pub even-stretch : rampedIn national (roof .shape) (baseCode code) i ≡ false → Level (stretch national site roof code i)
   unfolding stretch
-  even-stretch e = level-in national (roof .slopes) (factorOf site code) (baseCode code) (roof .shape) (site .sk) i e
+  even-stretch e = level-in national (roof .spans) (factorOf site code) (baseCode code) (roof .shape) (site .sk) i e
 
-  module _ (hs : siteRefusal site ≡ 0) (k : severalSlopes (kindOf (roof .shape)) ≡ false) (c : suc i < count national roof code)
+  module _ (hs : siteRefusal site ≡ 0) (k : severalSlopes (kindOf (roof .shape)) (spanCount (roof .shape)) (baseCode code) ≡ false)
+      (c : suc i < count national roof code)
       (e : rampedIn national (roof .shape) (baseCode code) i ≡ false) (e' : rampedIn national (roof .shape) (baseCode code) (suc i) ≡ false) where
     pub evens-rounded-apart :
         breakLoad parts (stretch national site roof code i .from) ≡ breakLoad parts (stretch national site roof code (suc i) .from) → ⊥
     unfolding stretch count
     evens-rounded-apart d =
         let f = site-in site hs in
-        apart-in national (roof .slopes) (factorOf site code) (site .sk) (baseCode code) i (factor-positive site code f) (omega (arith, f .sk .low))
+        apart-in national (roof .spans) (factorOf site code) (site .sk) (baseCode code) i (factor-positive site code f) (omega (arith, f .sk .low))
         (roof .shape) k c e e' d
 
     pub evens-apart : stretch national site roof code i .from ≡ stretch national site roof code (suc i) .from → ⊥

@@ -53,23 +53,23 @@ chosen : (kind : ℕ) (a b : SlopeAt) (t : Bool) → sides kind a → sides kind
 chosen kind a b true p q = p
 chosen kind a b false p q = q
 
-shape-sides : (shape : Shape) (slopes : List ℕ) (n : ℕ) → ShapeIn shape slopes → sides (kindOf shape) (slopeAt shape n)
+shape-sides : (shape : Shape) (spans : List ℕ) (n : ℕ) → ShapeIn shape spans → sides (kindOf shape) (slopeAt shape n)
 unfolding slopeAt sides
-shape-sides (Monopitch slope guard) slopes n f = chosen 2 _ _ (eqb n 1) (record { slope = f .slope; guard = f .guard }, refl) tt
-shape-sides (Pitched left right leftGuard rightGuard) slopes n f =
+shape-sides (Monopitch slope guard) spans n f = chosen 2 _ _ (eqb n 1) (record { slope = f .slope; guard = f .guard }, refl) tt
+shape-sides (Pitched left right leftGuard rightGuard) spans n f =
     chosen 3 (someSlope left leftGuard) (cond (eqb n 2) (someSlope right rightGuard) noSlope) (eqb n 1)
     (record { slope = f .left; guard = f .left-guard }, refl)
     (chosen 3 (someSlope right rightGuard) noSlope (eqb n 2) (record { slope = f .right; guard = f .right-guard }, refl) tt)
-shape-sides (MultiSpan count) slopes n f = tt
-shape-sides (Cylindrical rise span) slopes n f = tt
-shape-sides (Abutting b1 b2 h slope guard) slopes n f = tt
-shape-sides (Projection h left right) slopes n f = tt
+shape-sides (MultiSpan count drifts) spans n f = tt
+shape-sides (Cylindrical rise span) spans n f = tt
+shape-sides (Abutting b1 b2 h slope guard) spans n f = tt
+shape-sides (Projection h left right) spans n f = tt
 
 -- a kind without local forces has no slope here
 pub no-sides :
-    (shape : Shape) (slopes : List ℕ) (n : ℕ) → shapeRefusal shape slopes ≡ 0 → forcesIn (kindOf shape) ≡ false → slopeAt shape n ≡ noSlope
+    (shape : Shape) (spans : List ℕ) (n : ℕ) → shapeRefusal shape spans ≡ 0 → forcesIn (kindOf shape) ≡ false → slopeAt shape n ≡ noSlope
 unfolding sides
-no-sides shape slopes n h e = go (slopeAt shape n) (shape-sides shape slopes n (shape-in shape slopes h))
+no-sides shape spans n h e = go (slopeAt shape n) (shape-sides shape spans n (shape-in shape spans h))
   where
     go : (at : SlopeAt) → sides (kindOf shape) at → at ≡ noSlope
     go noSlope s = refl
@@ -80,7 +80,7 @@ pub side-in :
     → SideIn slope guard
 unfolding sides
 side-in roof n slope guard hr e =
-    subst (λ (s : SlopeAt). sides (kindOf (roof .shape)) s) e (shape-sides (roof .shape) (roof .slopes) n (shape-in (roof .shape) (roof .slopes) hr)) .0
+    subst (λ (s : SlopeAt). sides (kindOf (roof .shape)) s) e (shape-sides (roof .shape) (roof .spans) n (shape-in (roof .shape) (roof .spans) hr)) .0
 
 -- S is at most 24,000: μ1 at most 0.8, Ce at most 1.2, Ct at most 1, sk at most 25,000
 mu-most : (slope : Slope) (guard : ℕ) → guard ≤ 1 → 375 * slopeMu slope guard .num ≤ 300 * slopeMu slope guard .den

@@ -1,8 +1,10 @@
 pub mod Abutting
+pub mod AnnexB
 pub mod Answered
 pub mod Codes
 pub mod Cylindrical
 pub mod Demand
+pub mod Drift
 pub mod Forces
 pub mod Loads
 pub mod Monopitch
@@ -12,3 +14,4 @@ pub mod Pitched
 pub mod Projection
 pub mod Runs
 pub mod Sine
+pub mod ValleyDrift

@@ -23,51 +23,51 @@ either-up : (b : Bool) (l m l' m' : Load) → Upward l l' → Upward m m' → Up
 either-up true l m l' m' p q = p
 either-up false l m l' m' p q = q
 
-module _ (slopes : List ℕ) where
-  pub widths-most : (n : ℕ) → ((i : ℕ) → i < n → SlopeIn (slopeOf slopes i)) → widths slopes n ≤ 100000 * n
+module _ (spans : List ℕ) where
+  pub widths-most : (n : ℕ) → ((i : ℕ) → i < n → SlopeIn (slopeOf spans i)) → widths spans n ≤ 100000 * n
   unfolding widths
   widths-most zero f = omega arith
   widths-most (suc n) f = omega (arith, widths-most n (λ i h. f i (omega arith)), f n (omega arith) .width .high)
 
   module _ (factor : ℕ) where
-    own-positive : (sk i : ℕ) → Positive (ownLoad factor sk slopes i)
+    own-positive : (sk i : ℕ) → Positive (ownLoad factor sk spans i)
     unfolding ownLoad
-    own-positive sk i = alone-positive _ factor sk (mu1-positive (slopeOf slopes i .pitch))
+    own-positive sk i = alone-positive _ factor sk (mu1-positive (slopeOf spans i .pitch))
 
-    valley-positive : (sk i : ℕ) → Positive (valleyLoad factor sk slopes i)
+    valley-positive : (sk i : ℕ) → Positive (valleyLoad factor sk spans i)
     unfolding valleyLoad
-    valley-positive sk i = alone-positive _ factor sk (mu2-positive (slopeOf slopes i .pitch + slopeOf slopes (i + 1) .pitch))
+    valley-positive sk i = alone-positive _ factor sk (mu2-positive (slopeOf spans i .pitch + slopeOf spans (i + 1) .pitch))
 
-    own-up : (s t i : ℕ) → s ≤ t → Upward (ownLoad factor s slopes i) (ownLoad factor t slopes i)
+    own-up : (s t i : ℕ) → s ≤ t → Upward (ownLoad factor s spans i) (ownLoad factor t spans i)
     unfolding ownLoad
     own-up s t i p = steady-up factor s t _ p
 
-    valley-up : (s t i : ℕ) → s ≤ t → Upward (valleyLoad factor s slopes i) (valleyLoad factor t slopes i)
+    valley-up : (s t i : ℕ) → s ≤ t → Upward (valleyLoad factor s spans i) (valleyLoad factor t spans i)
     unfolding valleyLoad
     valley-up s t i p = steady-up factor s t _ p
 
     module _ (count : ℕ) (undrifted : Bool) where
-      multi-span-readable : (sk i : ℕ) → SlopeIn (slopeOf slopes i) → Readable (multiSpan factor sk slopes count undrifted i)
+      multi-span-readable : (sk i : ℕ) → SlopeIn (slopeOf spans i) → Readable (multiSpan factor sk spans count undrifted i)
       unfolding multiSpan multiSpanFrom multiSpanTo
       multi-span-readable sk i f =
           ramp-readable _ _ _ (omega (arith, f .width .low))
           (either-positive (undrifted || eqb i 0 || eqb (i % 2) 1) _ _ (own-positive sk i) (valley-positive sk _))
           (either-positive (undrifted || eqb (i + 1) (2 * count) || eqb (i % 2) 0) _ _ (own-positive sk i) (valley-positive sk i))
 
-      slopes-length : (sk n : ℕ) → startOf (multiSpan factor sk slopes count undrifted) n ≡ 4 * widths slopes n
+      slopes-length : (sk n : ℕ) → startOf (multiSpan factor sk spans count undrifted) n ≡ 4 * widths spans n
       unfolding startOf multiSpan widths
       slopes-length sk zero = refl
       slopes-length sk (suc n) = omega (arith, slopes-length sk n)
 
       pub multi-span-formed :
-          (sk : ℕ) → MultiSpanIn count slopes
-          → WellFormed (multiSpan factor sk slopes count undrifted) (2 * count) (4 * widths slopes (2 * count))
+          (sk : ℕ) → MultiSpanIn count spans
+          → WellFormed (multiSpan factor sk spans count undrifted) (2 * count) (4 * widths spans (2 * count))
       multi-span-formed sk f =
           formed _ _ _ (omega (arith, f .count .low)) (omega (arith, f .count .high))
-          (λ i h. multi-span-readable sk i (f .slopes i h))
+          (λ i h. multi-span-readable sk i (f .spans i h))
           (slopes-length sk (2 * count))
 
-      pub multi-span-rises : (s t i : ℕ) → s ≤ t → Rises (multiSpan factor s slopes count undrifted i) (multiSpan factor t slopes count undrifted i)
+      pub multi-span-rises : (s t i : ℕ) → s ≤ t → Rises (multiSpan factor s spans count undrifted i) (multiSpan factor t spans count undrifted i)
       unfolding multiSpan multiSpanFrom multiSpanTo
       multi-span-rises s t i p =
           ramp-rises _ _ _ _ _
@@ -77,14 +77,14 @@ module _ (slopes : List ℕ) where
     -- The first slope is a left one and the last a right one, so neither has a valley: its own load stands at both its ends.
     pub multi-span-level :
         (count : ℕ) (undrifted : Bool) (sk i : ℕ) → (undrifted || eqb i 0 || eqb (i + 1) (2 * count)) ≡ true
-        → Level (multiSpan factor sk slopes count undrifted i)
+        → Level (multiSpan factor sk spans count undrifted i)
     unfolding multiSpan multiSpanFrom multiSpanTo
     multi-span-level count undrifted sk i h = record { ends = own-both undrifted (eqb i 0) (eqb (i + 1) (2 * count)) refl refl h; skip = refl; full = refl }
       where
         own-both :
             (u a b : Bool) → eqb i 0 ≡ a → eqb (i + 1) (2 * count) ≡ b → (u || a || b) ≡ true
-            → cond (u || a || eqb (i % 2) 1) (ownLoad factor sk slopes i) (valleyLoad factor sk slopes (i - 1))
-            ≡ cond (u || b || eqb (i % 2) 0) (ownLoad factor sk slopes i) (valleyLoad factor sk slopes i)
+            → cond (u || a || eqb (i % 2) 1) (ownLoad factor sk spans i) (valleyLoad factor sk spans (i - 1))
+            ≡ cond (u || b || eqb (i % 2) 0) (ownLoad factor sk spans i) (valleyLoad factor sk spans i)
         own-both true a b p q r = refl
         own-both false true true p q r = refl
         own-both false true false p q r = let e : i % 2 ≡ 0 = omega (arith, eqb-true i 0 p) in rw e

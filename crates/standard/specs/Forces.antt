@@ -26,7 +26,7 @@ unfoldable pub slopeAt : Shape → ℕ → SlopeAt
 slopeAt (Monopitch slope guard) n = cond (eqb n 1) (someSlope slope guard) noSlope
 slopeAt (Pitched left right leftGuard rightGuard) n =
     cond (eqb n 1) (someSlope left leftGuard) (cond (eqb n 2) (someSlope right rightGuard) noSlope)
-slopeAt (MultiSpan count) n = noSlope
+slopeAt (MultiSpan count drifts) n = noSlope
 slopeAt (Cylindrical rise span) n = noSlope
 slopeAt (Abutting b1 b2 h slope guard) n = noSlope
 slopeAt (Projection h left right) n = noSlope

@@ -5,6 +5,7 @@ pub mod Bounds
 pub mod Codes
 pub mod Coefficients
 pub mod Cylindrical
+pub mod Drift
 pub mod Forces
 pub mod Monopitch
 pub mod MultiSpan
@@ -14,3 +15,4 @@ pub mod Projection
 pub mod Sine
 pub mod Stretch
 pub mod Units
+pub mod ValleyDrift

@@ -11,26 +11,26 @@ use Rattle.standard.specs.Stretch.{Stretch, ramp, loadAlone}
 
 -- the load of slope i's own μ1
 unfoldable pub ownLoad : ℕ → ℕ → List ℕ → ℕ → Load
-ownLoad factor sk slopes i = loadAlone (mu1 (slopeOf slopes i .pitch)) factor sk
+ownLoad factor sk spans i = loadAlone (mu1 (slopeOf spans i .pitch)) factor sk
 
 -- the load at the valley between slope i and the next
 unfoldable pub valleyLoad : ℕ → ℕ → List ℕ → ℕ → Load
-valleyLoad factor sk slopes i = loadAlone (valleyMu (slopeOf slopes i .pitch) (slopeOf slopes (i + 1) .pitch)) factor sk
+valleyLoad factor sk spans i = loadAlone (valleyMu (slopeOf spans i .pitch) (slopeOf spans (i + 1) .pitch)) factor sk
 
 -- a left slope has its valley at its left end, a right slope at its right end; the first and the last slope have none
 unfoldable pub multiSpanFrom : ℕ → ℕ → List ℕ → Bool → ℕ → Load
-multiSpanFrom factor sk slopes undrifted i =
-    cond (undrifted || eqb i 0 || eqb (i % 2) 1) (ownLoad factor sk slopes i) (valleyLoad factor sk slopes (i - 1))
+multiSpanFrom factor sk spans undrifted i =
+    cond (undrifted || eqb i 0 || eqb (i % 2) 1) (ownLoad factor sk spans i) (valleyLoad factor sk spans (i - 1))
 
 unfoldable pub multiSpanTo : ℕ → ℕ → List ℕ → ℕ → Bool → ℕ → Load
-multiSpanTo factor sk slopes count undrifted i =
-    cond (undrifted || eqb (i + 1) (2 * count) || eqb (i % 2) 0) (ownLoad factor sk slopes i) (valleyLoad factor sk slopes i)
+multiSpanTo factor sk spans count undrifted i =
+    cond (undrifted || eqb (i + 1) (2 * count) || eqb (i % 2) 0) (ownLoad factor sk spans i) (valleyLoad factor sk spans i)
 
 unfoldable pub multiSpan : ℕ → ℕ → List ℕ → ℕ → Bool → ℕ → Stretch
-multiSpan factor sk slopes count undrifted i =
-    ramp (4 * slopeOf slopes i .width) (multiSpanFrom factor sk slopes undrifted i) (multiSpanTo factor sk slopes count undrifted i)
+multiSpan factor sk spans count undrifted i =
+    ramp (4 * slopeOf spans i .width) (multiSpanFrom factor sk spans undrifted i) (multiSpanTo factor sk spans count undrifted i)
 
 -- the widths of the first n slopes together
 unfoldable pub widths : List ℕ → ℕ → ℕ
-widths slopes zero = 0
-widths slopes (suc n) = widths slopes n + slopeOf slopes n .width
+widths spans zero = 0
+widths spans (suc n) = widths spans n + slopeOf spans n .width

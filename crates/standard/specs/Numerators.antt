@@ -30,6 +30,10 @@ windNum national b h sk = max (2 * h * national .low * sk) (min (2 * h * nationa
 unfoldable pub slideNum : Slope → ℕ → ℕ
 slideNum slope guard = cond (leb (slope .pitch) 150) 0 (slopeNum (slope .pitch) guard * slope .width)
 
+-- ls × the load at a valley with a drift, which has no coefficient
+unfoldable pub peakNum : ℕ → ℕ → ℕ → ℕ → ℕ
+peakNum h b3 ls sk = min (2 * h * ls) (min (2 * b3 * sk) (5 * sk * ls))
+
 -- 10 × sk × μ2 at a projection
 unfoldable pub projectionNum : ℕ → ℕ → ℕ
 projectionNum h sk = max (8 * sk) (min (20 * sk) (20 * h))

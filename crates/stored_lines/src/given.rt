@@ -1,12 +1,16 @@
 // The site and the roof that a line gives, from one of its numbers on.
-ghost use Prim.Native.Nat.{_<_};
+ghost use Prim.Native.Nat.{_≤_, _<_};
 use crate::words::MISSING;
+use crate::words::count_of;
 use crate::words::number;
 use figures::Roof;
-use figures::SLOPE_NUMBERS;
+use figures::SPAN_NUMBERS;
 use figures::Shape;
 use figures::Site;
 use figures::Slope;
+
+// A place that no line reaches.
+const BEYOND: u32 = 900;
 
 // Seven numbers.
 struct Row {
@@ -74,7 +78,10 @@ fn shape_of(row: Row) -> Shape {
             left_guard: byte(row.d),
             right_guard: byte(row.e),
         },
-        4 => Shape::MultiSpan { count: byte(row.b) },
+        4 | 9 => Shape::MultiSpan {
+            count: byte(row.b),
+            drifts: kind == 9,
+        },
         5 => Shape::Cylindrical {
             rise: row.b,
             span: row.c,
@@ -97,7 +104,8 @@ fn shape_of(row: Row) -> Shape {
     }
 }
 
-// Whether n numbers are right where a roof of a kind stands behind some others: a multi-span roof has four numbers for each span.
+// Whether n numbers are right where a roof of a kind stands behind some others. Kind 4 has four for each span, beside kind and
+// count. Kind 9 has six for each: four, and two for the valley behind it, in place of which the last has kind and count.
 pub fn fits(kind: u32, before: u32, n: u32) -> bool
     requires { ⌜ before < 20 ⌝ }
 {
@@ -106,36 +114,66 @@ pub fn fits(kind: u32, before: u32, n: u32) -> bool
         3 | 6 => n == before + 7,
         4 => n % 4 == (before + 2) % 4,
         5 => n == before + 3,
+        9 => n % 6 == before % 6,
         _ => false,
     }
 }
 
-// Number k of the slopes, 0 behind the line's spans: of a span the line has both pitches, then both widths.
-fn slope_number(text: &[u8], at: usize, first: u32, k: u32) -> u32
-    requires { ⌜ k < 64 ⌝ }
+// How many spans the line of a roof has numbers for: of kind 4 up to 16, of kind 9 one for each six numbers.
+fn spans_in(text: &[u8], at: usize, first: u32, kind: u32) -> u32
+    ensures { λ r. ⌜ r ≤ 33 ⌝ }
 {
-    let number = number(text, at, first, 2 + k - k % 4 + 2 * (k % 2) + k % 4 / 2);
+    if kind != 9 {
+        return 16;
+    }
+    let n = count_of(text, at);
+    if n < first {
+        return 0;
+    }
+    (n - first + 1) / 6
+}
+
+// Where the line has number k of the slopes and valleys, counted from its kind: of each span both pitches, then both widths,
+// and the valleys behind its spans.
+fn place_of(spans: u32, k: u32) -> u32
+    requires { ⌜ (spans ≤ 33) × (k < 94) ⌝ }
+{
+    if 64 <= k {
+        return 2 + 4 * spans + (k - 64);
+    }
+    if 4 * spans <= k {
+        return BEYOND;
+    }
+    2 + k - k % 4 + 2 * (k % 2) + k % 4 / 2
+}
+
+// Number k of the slopes and valleys, 0 behind those of the line.
+fn span_number(text: &[u8], at: usize, first: u32, spans: u32, k: u32) -> u32
+    requires { ⌜ (spans ≤ 33) × (k < 94) ⌝ }
+{
+    let number = number(text, at, first, place_of(spans, k));
     if number < MISSING { number } else { 0 }
 }
 
-// The slopes of a multi-span roof; other kinds have none.
-fn slopes_of(text: &[u8], at: usize, first: u32, kind: u32) -> [u32; SLOPE_NUMBERS] {
-    let mut slopes = [0; SLOPE_NUMBERS];
-    if kind != 4 {
-        return slopes;
+// The slopes and valleys of a multi-span roof; other kinds have none.
+fn spans_of(text: &[u8], at: usize, first: u32, kind: u32) -> [u32; SPAN_NUMBERS] {
+    let mut numbers = [0; SPAN_NUMBERS];
+    if (kind != 4) & (kind != 9) {
+        return numbers;
     }
+    let spans = spans_in(text, at, first, kind);
     let mut k = 0;
-    while k < 64 {
-        slopes[k] = slope_number(text, at, first, k as u32);
+    while k < SPAN_NUMBERS {
+        numbers[k] = span_number(text, at, first, spans, k as u32);
         k += 1;
     }
-    slopes
+    numbers
 }
 
 pub fn roof_of(text: &[u8], at: usize, first: u32) -> Roof {
     let row = row_of(text, at, first);
     Roof {
         shape: shape_of(row),
-        slopes: slopes_of(text, at, first, row.a),
+        spans: spans_of(text, at, first, row.a),
     }
 }

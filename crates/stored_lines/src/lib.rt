@@ -6,7 +6,7 @@ pub use given::byte;
 pub use given::fits;
 pub use given::roof_of;
 pub use given::site_of;
-pub use words::MISSING;
 pub use words::behind;
+pub use words::count_of;
 pub use words::number;
 pub use words::word_of;

@@ -68,13 +68,13 @@ fn with_byte(number: u32, byte: u8) -> u32 {
     WORD
 }
 
-// How many numbers there are, up to 99, with one that ends before a byte.
+// How many numbers there are, up to 199, with one that ends before a byte.
 fn with_number(n: u32, number: u32, byte: u8) -> u32
-    requires { ⌜ n ≤ 99 ⌝ }
-    ensures { λ r. ⌜ r ≤ 99 ⌝ }
+    requires { ⌜ n ≤ 199 ⌝ }
+    ensures { λ r. ⌜ r ≤ 199 ⌝ }
 {
     if (byte <= b' ') & (number != EMPTY) & (number != WORD) {
-        if n < 99 {
+        if n < 199 {
             return n + 1;
         }
     }
@@ -100,4 +100,18 @@ pub fn number(text: &[u8], at: usize, first: u32, k: u32) -> u32 {
         i += 1;
     }
     MISSING + n
+}
+
+// How many numbers a line has, up to 199.
+pub fn count_of(text: &[u8], at: usize) -> u32
+    ensures { λ r. ⌜ r ≤ 199 ⌝ }
+{
+    let last = number(text, at, 200, 0);
+    if last < MISSING {
+        return 0;
+    }
+    if 199 < last - MISSING {
+        return 199;
+    }
+    last - MISSING
 }

@@ -15,10 +15,10 @@ fn file_room() -> [u8; 524288]
 }
 
 // Room for the listing of any sheet.
-fn list_room() -> [u8; 275557]
-    ensures { λ r. ⌜ 275557 ≡ length r ⌝ }
+fn list_room() -> [u8; 267373]
+    ensures { λ r. ⌜ 267373 ≡ length r ⌝ }
 {
-    [0; 275557]
+    [0; 267373]
 }
 
 // Room for the lines that are written.

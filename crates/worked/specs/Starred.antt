@@ -1,10 +1,11 @@
 -- The figures that document 01 marks with a star, as one table with one claim, computed from the definitions.
 -- Ce = Ct = 100, sk = 1,000 unless said.
 use Prim.Native.Nat.{ℕ}
+use mathlib.Core.Bool.{false}
 use mathlib.Core.Path.{_≡_, refl}
 use mathlib.Core.List.{List, [], _∷_}
 use lib.ListN.{replicate}
-use Rattle.figures.specs.RoofRules.{roofOf, noSlopes, slopeOf, slopesFields, steepValleys, shapeRefusal, roofRefusal}
+use Rattle.figures.specs.RoofRules.{roofOf, noSpans, slopeOf, slopesFields, steepValleys, shapeRefusal, roofRefusal}
 use Rattle.figures.specs.Rules.{firstOf}
 use Rattle.figures.specs.declared.site.Site.{Site}
 use Rattle.figures.specs.declared.roof.Slope.{Slope}
@@ -24,6 +25,7 @@ use Rattle.standard.specs.Monopitch.{monopitch}
 use Rattle.standard.specs.MultiSpan.{ownLoad, valleyLoad, multiSpanFrom, multiSpanTo, multiSpan}
 use Rattle.standard.specs.Pitched.{pitched}
 use Rattle.standard.specs.Stretch.{load, readIn, startOf, segment, segments, holds, readingAt, greatest}
+use Rattle.standard.specs.ValleyDrift.{spansStretch, spansCount}
 
 abbrev pub siteOf : ℕ → Site
 siteOf sk = record { sk = sk; ce = 100; ct = 100; cesl = 200; situation = 0; altitude = 500 }
@@ -33,17 +35,17 @@ slopeOfPitch pitch width = record { pitch = pitch; width = width }
 
 -- two spans whose slopes have these pitches, each 4,000 wide
 abbrev pub twoSpans : ℕ → ℕ → ℕ → ℕ → Roof
-twoSpans a b c d = roofOf (MultiSpan 2) (a ∷ 4000 ∷ b ∷ 4000 ∷ c ∷ 4000 ∷ d ∷ 4000 ∷ replicate 56 0)
+twoSpans a b c d = roofOf (MultiSpan 2 false) (a ∷ 4000 ∷ b ∷ 4000 ∷ c ∷ 4000 ∷ d ∷ 4000 ∷ replicate 86 0)
 
 abbrev pub monopitchRoof : ℕ → ℕ → Roof
-monopitchRoof pitch guard = roofOf (Monopitch (slopeOfPitch pitch 5000) guard) noSlopes
+monopitchRoof pitch guard = roofOf (Monopitch (slopeOfPitch pitch 5000) guard) noSpans
 
 abbrev pub pitchedRoof : Roof
-pitchedRoof = roofOf (Pitched (slopeOfPitch 200 4000) (slopeOfPitch 400 6000) 0 0) noSlopes
+pitchedRoof = roofOf (Pitched (slopeOfPitch 200 4000) (slopeOfPitch 400 6000) 0 0) noSpans
 
 -- b1 = 10,000, h = 3,000, an upper slope 6,000 wide
 abbrev pub lowerRoof : ℕ → ℕ → Roof
-lowerRoof b2 pitch = roofOf (Abutting 10000 b2 3000 (slopeOfPitch pitch 6000) 0) noSlopes
+lowerRoof b2 pitch = roofOf (Abutting 10000 b2 3000 (slopeOfPitch pitch 6000) 0) noSpans
 
 abbrev pub made : ℕ → Roof → ℕ → List ℕ
 made sk roof code = arrangement recommendedFigures (siteOf sk) roof code
@@ -65,9 +67,9 @@ computed =
     ∷ made 1000 (twoSpans 200 200 100 100) 2
     ∷ (roofRefusal (twoSpans 10 600 600 10) ∷ [])
     -- kind 5: 3,000/20,000; the loaded width of 1,000/2,000, and its code 2
-    ∷ made 1000 (roofOf (Cylindrical 3000 20000) noSlopes) 2
+    ∷ made 1000 (roofOf (Cylindrical 3000 20000) noSpans) 2
     ∷ (loadedWidth 1000 2000 ∷ [])
-    ∷ made 1000 (roofOf (Cylindrical 1000 2000) noSlopes) 2
+    ∷ made 1000 (roofOf (Cylindrical 1000 2000) noSpans) 2
     -- kind 6: 10,000/20,000/3,000, pitch 10°, and the load at position 12,000; a slope at 20°, at 15.0°; b2 = 3,000
     ∷ made 1000 (lowerRoof 20000 100) 2
     ∷ (loadAt recommendedFigures (siteOf 1000) (lowerRoof 20000 100) 2 12000 ∷ [])
@@ -105,7 +107,7 @@ stated =
 -- the claim
 pub starred : computed ≡ stated
 unfolding computed stated
-    arrangement count countIn cylindricalCount abuttingCount stretch stretchIn factorOf
+    arrangement count countIn spansCount cylindricalCount abuttingCount stretch stretchIn spansStretch factorOf
     monopitch pitched multiSpan multiSpanFrom multiSpanTo ownLoad valleyLoad
     cylindrical archDrift archEven peakLoad halfLoad loadedWidth firstFrom wideEnough
     abutting abuttingDrift wallLoad

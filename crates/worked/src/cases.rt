@@ -14,12 +14,13 @@ use stored_lines::word_of;
 // The word of a line that gives one more site.
 pub const SITES: u64 = 0x7369746573;
 
-// The codes of document 01, and some that no roof has: 0 to 4, 10 to 14, 21 and 255.
+// The codes of documents 01 and 02, and some that no roof has: 0 to 4, 10 to 14, 20, 21, 30 to 46 and 255.
 fn code_at(i: usize) -> u8 {
     match i {
         0..=4 => i as u8,
         5..=9 => i as u8 + 5,
-        10 => 21,
+        10..=11 => i as u8 + 10,
+        12..=28 => i as u8 + 18,
         _ => 255,
     }
 }
@@ -44,7 +45,7 @@ fn one_code(tally: Tally, site: Site, roof: Roof, code: u8) -> Tally {
 // Every code, and the slopes 0 to 3: those that a roof may have, and two that no roof has.
 fn codes(mut tally: Tally, site: Site, roof: Roof) -> Tally {
     let mut i = 0;
-    while i < 12 {
+    while i < 30 {
         let code = code_at(i);
         tally = one_code(tally, site, roof, code);
         tally.forces = slope(tally.forces, site, roof, code);

@@ -1,7 +1,7 @@
 // Local forces at the slopes of a roof, and at every pitch, against the second calculation.
 use super::tally::compared;
 use figures::Roof;
-use figures::SLOPE_NUMBERS;
+use figures::SPAN_NUMBERS;
 use figures::Shape;
 use figures::Site;
 use figures::Slope;
@@ -40,7 +40,7 @@ fn guarded(pitch: u32, width: u32) -> Roof {
     };
     Roof {
         shape: shape,
-        slopes: [0; SLOPE_NUMBERS],
+        spans: [0; SPAN_NUMBERS],
     }
 }
 

@@ -7,9 +7,9 @@ use super::tally::Tally;
 use super::tally::compared;
 use figures::Roof;
 use figures::Site;
-use stored_lines::MISSING;
 use stored_lines::behind;
 use stored_lines::byte;
+use stored_lines::count_of;
 use stored_lines::fits;
 use stored_lines::number;
 use stored_lines::roof_of;
@@ -34,11 +34,7 @@ const OUTSIDE: u64 = 0x6f757473696465;
 
 // Whether a line has the numbers that its word asks for.
 fn readable(word: u64, text: &[u8], at: usize) -> bool {
-    let last = number(text, at, 100, 0);
-    if last < MISSING {
-        return false;
-    }
-    let n = last - MISSING;
+    let n = count_of(text, at);
     match word {
         SITES => n == 6,
         PITCHES => n == 8,

@@ -1,6 +1,6 @@
-// Reads stored cases: figures of document 01, figures outside their ranges, and many roofs. Runs each through the maker, the
-// reader and the local forces, asks for the ground load of every place on the map, holds every answer to the stored figure
-// or to a second calculation, and writes what it counted.
+// Reads stored cases: figures of documents 01 and 02, figures outside their ranges, and many roofs. Runs each through the
+// maker, the reader and the local forces, asks for the ground load of every place on the map, holds every answer to the
+// stored figure or to a second calculation, and writes what it counted.
 mod arrangements;
 mod cases;
 mod forces;

@@ -18,7 +18,10 @@ const SLICE: usize = 128;
 /// Fills memory before it is lent.
 const MARK_BYTE: u8 = 0xA5;
 const MARK: u32 = u32::from_ne_bytes([MARK_BYTE; 4]);
-const CODES: [u8; 6] = [1, 2, 3, 11, 12, 13];
+/// Shapes of persistent snow, those of exceptional falls, and a drift in each of up to 15 valleys.
+const CODES: [u8; 21] = [
+    1, 2, 3, 11, 12, 13, 31, 32, 33, 34, 35, 36, 37, 38, 39, 40, 41, 42, 43, 44, 45,
+];
 /// No sheet has such an item.
 const MISSING: [usize; 6] = [255, 256, 65_534, 65_535, 65_536, usize::MAX];
 /// A region, a zone and an altitude in m.

@@ -1,7 +1,7 @@
 //! The seven calls as safe functions.
 
 /// A number of bytes that holds the listing of any sheet.
-pub const LIST_ROOM: usize = 275_557;
+pub const LIST_ROOM: usize = 267_373;
 
 const REFUSED: u32 = 0x8000_0000;
 const NONE: u32 = u32::MAX;

@@ -19,12 +19,20 @@ returns : tie.Need-returns
 unfolding existsIn
 returns c = rw (c .is-persistent .ensures, ← c .before .before .is-accidental .ensures, c .before .if1 .taken)
 
+has-drifts-requires : tie.Need-has-drifts-requires
+has-drifts-requires c κs = search needs
+
 is-persistent-requires-2 : tie.Need-is-persistent-requires-2
 is-persistent-requires-2 c κs = search needs
 
+names-valley-requires : tie.Need-names-valley-requires
+names-valley-requires c κs = search needs
+
 returns-2 : tie.Need-returns-2
 unfolding existsIn
-returns-2 c = rw (c .is-persistent2 .ensures, ← c .before .before .is-accidental .ensures, c .before .if1 .left)
+returns-2 c =
+    let b = c .before .before in
+    rw (c .before .is-persistent2 .ensures, b .has-drifts .ensures, c .names-valley .ensures, ← b .before .before .is-accidental .ensures, b .before .if1 .left)
 
 pub has-code-spec : {M : Type 1} → statement M
 has-code-spec =
@@ -34,5 +42,7 @@ has-code-spec =
     sub-is-persistent
     is-persistent-requires
     returns
+    has-drifts-requires
     is-persistent-requires-2
+    names-valley-requires
     returns-2)

@@ -10,6 +10,9 @@ refusal-requires c κs = search needs
 kind-of-requires : tie.Need-kind-of-requires
 kind-of-requires c κs = search needs
 
+span-count-requires : tie.Need-span-count-requires
+span-count-requires c κs = search needs
+
 has-code-requires : tie.Need-has-code-requires
 has-code-requires c κs = search needs
 
@@ -29,6 +32,7 @@ refusal-spec =
     (tie.spec
     refusal-requires
     kind-of-requires
+    span-count-requires
     has-code-requires
     refused-if-requires
     first-requires

@@ -23,7 +23,7 @@ returns c =
     let k : forcesIn (kindOf (s .args .shape)) ≡ false =
     rw (c .before .before .kind-of .ensures) at (sym (c .before .has-forces .ensures) ∙ not-true _ (c .if1 .taken)) in
     let w = s .pre .1 in
-    (wrote-as (none _ _) (no-forces (s .args .site) (s .args .shape) (s .args .item) (w .slopes) (w .accepted) k), omega arith)
+    (wrote-as (none _ _) (no-forces (s .args .site) (s .args .shape) (s .args .item) (w .spans) (w .accepted) k), omega arith)
 
 list-slope-requires : tie.Need-list-slope-requires
 list-slope-requires c κs = search needs

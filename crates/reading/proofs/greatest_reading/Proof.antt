@@ -13,13 +13,13 @@ use Rattle.reading.proofs.greatest_reading.Statement.{statement}
 use Rattle.reading.proofs.greatest_reading.Tie as tie
 
 abbrev Inv-loop : tie.InvT-loop
-Inv-loop national site shape slopes code n station load₀ start₀ i₀ load start i = (i ≤ n)
-    × (load ≡ greatest (stretch national site (roofOf shape slopes) code) station i)
+Inv-loop national site shape spans code n station load₀ start₀ i₀ load start i = (i ≤ n)
+    × (load ≡ greatest (stretch national site (roofOf shape spans) code) station i)
     × (load ≤ largestLoad)
-    × (start ≡ startOf (stretch national site (roofOf shape slopes) code) i)
+    × (start ≡ startOf (stretch national site (roofOf shape spans) code) i)
 
 abbrev μ-loop : tie.MeasureT-loop
-μ-loop national site shape slopes code n station load₀ start₀ i₀ load start i = n - i
+μ-loop national site shape spans code n station load₀ start₀ i₀ load start i = n - i
 
 loop-holds : tie.Need-loop-holds Inv-loop μ-loop
 unfolding startOf greatest

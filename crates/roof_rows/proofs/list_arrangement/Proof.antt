@@ -16,7 +16,7 @@ write-requires c κs = search needs
 
 counted :
     (c : tie.After-count) → let a = c .before .before .args in
-    c .count .result ≡ rowCount (a .national) (a .site) (roofOf (a .shape) (a .slopes .now)) (a .code)
+    c .count .result ≡ rowCount (a .national) (a .site) (roofOf (a .shape) (a .spans .now)) (a .code)
 counted c =
     let s = c .before .before in
     rows-are (s .args .national) (s .args .site) _ 0 (s .args .code) _ (s .pre .1) (c .count .ensures .0)

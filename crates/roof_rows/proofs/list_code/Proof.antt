@@ -9,28 +9,25 @@ use borrow.Author.Needs.{needs}
 use Rattle.roof_rows.proofs.list_code.Statement.{statement}
 use Rattle.roof_rows.proofs.list_code.Tie as tie
 
-kind-of-requires : tie.Need-kind-of-requires
-kind-of-requires c κs = search needs
-
 has-code-requires : tie.Need-has-code-requires
 has-code-requires c κs = search needs
 
 told :
-    (c : tie.After-has-code) → let a = c .before .before .before .args in
-    c .has-code .result ≡ exists (a .site) (roofOf (a .shape) (a .slopes .now)) (a .code)
+    (c : tie.After-has-code) → let a = c .before .before .args in
+    c .has-code .result ≡ exists (a .site) (roofOf (a .shape) (a .spans .now)) (a .code)
 unfolding exists
-told c = rw (c .before .kind-of .ensures) at (c .has-code .ensures)
+told c = let p = c .before .before .pre .0 in rw (p .0, p .1) at (c .has-code .ensures)
 
 returns : tie.Need-returns
 returns c =
-    let a = c .before .before .before .before .args in
+    let a = c .before .before .before .args in
     let k = sym (told (c .before)) ∙ not-true _ (c .if1 .taken) in
     (wrote-as (none _ _) (no-rows (a .national) (a .site) _ (a .item) (a .code) k), omega arith)
 
 list-arrangement-requires : tie.Need-list-arrangement-requires
 list-arrangement-requires c κs =
     let e = c .before .before in
-    let p = e .before .before .before .before .pre in
+    let p = e .before .before .before .pre .1 in
     (p .0, sym (told (e .before)) ∙ not-false _ (e .if1 .left), p .1)
 
 same-length : tie.Need-same-length
@@ -43,7 +40,6 @@ pub list-code-spec : {M : Type 1} → statement M
 list-code-spec =
     tie.close
     (tie.spec
-    kind-of-requires
     has-code-requires
     returns
     list-arrangement-requires

@@ -16,13 +16,10 @@ few : (c : tie.Else1) → (2 ≤ c .before .args .count) × (c .before .args .co
 few c = within-in 2 16 (c .before .args .count) (counted c)
 
 returns : tie.Need-returns
-returns c = let a = c .before .args in no-count (a .count) (a .slopes .now) (not-true (within 2 16 (a .count)) (c .if1 .taken))
+returns c = let a = c .before .args in no-count (a .count) (a .drifts) (a .spans .now) (not-true (within 2 16 (a .count)) (c .if1 .taken))
 
-mul-slopes-fields : tie.Need-mul-slopes-fields
-mul-slopes-fields c = search needs
-
-slopes-fields-requires : tie.Need-slopes-fields-requires
-slopes-fields-requires c κs = omega (arith, few c)
+span-fields-requires : tie.Need-span-fields-requires
+span-fields-requires c κs = (omega (arith, few c), omega (arith, few c))
 
 refused-if-requires : tie.Need-refused-if-requires
 refused-if-requires c κs = search needs
@@ -40,15 +37,17 @@ first-requires : tie.Need-first-requires
 first-requires c κs = search needs
 
 returns-2 : tie.Need-returns-2
-returns-2 c = let d = c .before .before .before .before .before in cc (its-count (d .before .args .count) (d .before .args .slopes .now) (counted d))
+returns-2 c =
+    let d = c .before .before .before .before .before in
+    let a = d .before .args in
+    cc (its-count (a .count) (a .drifts) (a .spans .now) (counted d))
 
 pub multi-span-refusal-spec : {M : Type 1} → statement M
 multi-span-refusal-spec =
     tie.close
     (tie.spec
     returns
-    mul-slopes-fields
-    slopes-fields-requires
+    span-fields-requires
     refused-if-requires
     sub-steep-valleys
     steep-valleys-requires

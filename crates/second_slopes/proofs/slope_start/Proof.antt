@@ -5,10 +5,10 @@ use Rattle.second_slopes.proofs.slope_start.Statement.{statement}
 use Rattle.second_slopes.proofs.slope_start.Tie as tie
 
 abbrev Inv-loop : tie.InvT-loop
-Inv-loop slopes i start₀ k₀ start k = k ≤ i
+Inv-loop spans i start₀ k₀ start k = k ≤ i
 
 abbrev μ-loop : tie.MeasureT-loop
-μ-loop slopes i start₀ k₀ start k = i - k
+μ-loop spans i start₀ k₀ start k = i - k
 
 loop-holds : tie.Need-loop-holds Inv-loop μ-loop
 loop-holds c = search needs

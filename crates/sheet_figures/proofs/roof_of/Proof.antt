@@ -1,5 +1,5 @@
 use mathlib.Core.Path.{sym, ap, _∙_}
-use Rattle.items.specs.declared.decoding.Item.{Item}
+use Rattle.item_forms.specs.declared.Item.{Item}
 use Rattle.sheet.specs.Figures.{roofBy}
 use Rattle.sheet.proofs.Places.{later-misplaced}
 use borrow.Author.Needs.{needs}
@@ -15,10 +15,10 @@ no-roof-requires c κs = search needs
 returns : tie.Need-returns
 returns c =
     let d = c .before .before .before .args .decoded in
-    c .no-roof .ensures ∙ later-misplaced (d .item) (d .slopes) (c .before .match .keys2) .1
+    c .no-roof .ensures ∙ later-misplaced (d .item) (d .spans) (c .before .match .keys2) .1
 
 returns-2 : tie.Need-returns-2
-returns-2 c = ap (λ (x : Item). roofBy x (c .before .before .before .before .args .decoded .slopes)) (sym (c .before .item .given .1))
+returns-2 c = ap (λ (x : Item). roofBy x (c .before .before .before .before .args .decoded .spans)) (sym (c .before .item .given .1))
 
 pub roof-of-spec : {M : Type 1} → statement M
 roof-of-spec = tie.close (tie.spec enum-known-item no-roof-requires returns returns-2)

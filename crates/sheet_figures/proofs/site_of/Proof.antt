@@ -1,5 +1,5 @@
 use mathlib.Core.Path.{sym, ap, _∙_}
-use Rattle.items.specs.declared.decoding.Item.{Item}
+use Rattle.item_forms.specs.declared.Item.{Item}
 use Rattle.sheet.specs.Figures.{siteBy}
 use Rattle.sheet.specs.Sheet.{ruleNumber}
 use Rattle.sheet.proofs.Places.{first-misplaced}
@@ -16,12 +16,12 @@ no-site-requires c κs = search needs
 returns : tie.Need-returns
 returns c =
     let d = c .before .before .args .decoded in
-    c .no-site .ensures ∙ first-misplaced (d .item) (d .slopes) (c .before .match .keys2) .1
+    c .no-site .ensures ∙ first-misplaced (d .item) (d .spans) (c .before .match .keys2) .1
 
 site-from-requires : tie.Need-site-from-requires
 site-from-requires c κs =
     let a = c .before .before .before in
-    sym (ap (λ (x : Item). ruleNumber 0 x (a .args .decoded .slopes)) (c .before .item .given .1)) ∙ a .pre
+    sym (ap (λ (x : Item). ruleNumber 0 x (a .args .decoded .spans)) (c .before .item .given .1)) ∙ a .pre
 
 returns-2 : tie.Need-returns-2
 returns-2 c = c .site-from .ensures .0 ∙ ap siteBy (sym (c .before .before .item .given .1))

@@ -8,10 +8,10 @@ use Rattle.slope_rules.proofs.slopes_fields.Statement.{statement}
 use Rattle.slope_rules.proofs.slopes_fields.Tie as tie
 
 abbrev Inv-loop : tie.InvT-loop
-Inv-loop slopes n sound₀ i₀ sound i = (i ≤ n) × (sound ≡ slopesFields slopes i)
+Inv-loop spans n sound₀ i₀ sound i = (i ≤ n) × (sound ≡ slopesFields spans i)
 
 abbrev μ-loop : tie.MeasureT-loop
-μ-loop slopes n sound₀ i₀ sound i = n - i
+μ-loop spans n sound₀ i₀ sound i = n - i
 
 loop-holds : tie.Need-loop-holds Inv-loop μ-loop
 unfolding slopesFields

@@ -8,10 +8,10 @@ use Rattle.slope_rules.proofs.steep_valleys.Statement.{statement}
 use Rattle.slope_rules.proofs.steep_valleys.Tie as tie
 
 abbrev Inv-loop : tie.InvT-loop
-Inv-loop slopes n steep₀ i₀ steep i = (i ≤ n) × (steep ≡ steepValleys slopes i)
+Inv-loop spans n steep₀ i₀ steep i = (i ≤ n) × (steep ≡ steepValleys spans i)
 
 abbrev μ-loop : tie.MeasureT-loop
-μ-loop slopes n steep₀ i₀ steep i = n - i
+μ-loop spans n steep₀ i₀ steep i = n - i
 
 loop-holds : tie.Need-loop-holds Inv-loop μ-loop
 unfolding steepValleys

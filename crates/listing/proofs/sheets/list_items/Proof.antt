@@ -15,7 +15,7 @@ abbrev Inv-loop : tie.InvT-loop
 Inv-loop sheet n numbers₀ out₀ at national site a₀ i₀ numbers out a i = Wrote out₀ at (itemsRows recommendedFigures sheet i) out a
     × (1 ≤ i)
     × (i ≤ n)
-    × (a + 8888 ≤ at + 8888 * i)
+    × (a + 8624 ≤ at + 8624 * i)
     × (length out ≡ length out₀)
 
 abbrev μ-loop : tie.MeasureT-loop

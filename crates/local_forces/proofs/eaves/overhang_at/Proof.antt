@@ -21,7 +21,7 @@ found c = sym (c .before .before .slope-of .ensures) ∙ ap slopeMeans (c .side 
 sides : (c : tie.After-side) → SideIn (c .side .given .0 .0) (c .side .given .0 .1 .0)
 sides c =
     let s = c .before .before .before in
-    side-in (roofOf (s .args .shape) (s .pre .1 .slopes)) (s .args .slope) _ _ (s .pre .1 .accepted) (found c)
+    side-in (roofOf (s .args .shape) (s .pre .1 .spans)) (s .args .slope) _ _ (s .pre .1 .accepted) (found c)
 
 enum-known-side : tie.Need-enum-known-side
 enum-known-side c = search needs

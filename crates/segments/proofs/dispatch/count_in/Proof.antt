@@ -14,11 +14,8 @@ enum-told-2 c = search needs
 enum-known-shape : tie.Need-enum-known-shape
 enum-known-shape c = search needs
 
-cast-result : tie.Need-cast-result
-cast-result c = search needs
-
-mul-result : tie.Need-mul-result
-mul-result c = search needs
+spans-count-requires : tie.Need-spans-count-requires
+spans-count-requires c κs = known-in (c .before .shape .given .1) _ (c .before .before .before .pre .1) .count .high
 
 enum-known-shape-2 : tie.Need-enum-known-shape-2
 enum-known-shape-2 c = search needs
@@ -71,9 +68,7 @@ returns-2 c = (rw (c .enum-told2 .given .1), omega arith)
 
 returns-3 : tie.Need-returns-3
 unfolding countIn
-returns-3 c =
-    let e = c .before .shape .given .1 in
-    (rw e, omega (arith, known-in e _ (c .before .before .before .pre .1) .count .high))
+returns-3 c = rw (c .before .before .shape .given .1) (c .spans-count .ensures)
 
 returns-4 : tie.Need-returns-4
 unfolding countIn
@@ -94,8 +89,7 @@ count-in-spec =
     enum-told
     enum-told-2
     enum-known-shape
-    cast-result
-    mul-result
+    spans-count-requires
     enum-known-shape-2
     cast-cylindrical-count
     cast-cylindrical-count-2

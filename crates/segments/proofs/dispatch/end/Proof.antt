@@ -1,4 +1,5 @@
 use Rattle.standard.specs.Arrangements.{endIn}
+use Rattle.standard.specs.MultiSpan.{widths}
 use Rattle.segments.proofs.Shapes.{known-in}
 use native.Mathlib.Omega.{arith}
 use borrow.Author.Needs.{needs}
@@ -32,14 +33,14 @@ mul-result-2 c = search needs
 enum-known-shape-3 : tie.Need-enum-known-shape-3
 enum-known-shape-3 c = search needs
 
-cast-widths-of : tie.Need-cast-widths-of
-cast-widths-of c = search needs
+cast-widths-between : tie.Need-cast-widths-between
+cast-widths-between c = search needs
 
-mul-widths-of : tie.Need-mul-widths-of
-mul-widths-of c = search needs
+mul-widths-between : tie.Need-mul-widths-between
+mul-widths-between c = search needs
 
-widths-of-requires : tie.Need-widths-of-requires
-widths-of-requires c κs = omega (arith, known-in (c .before .shape3 .given .1) _ (c .before .before .before .pre) .count .high)
+widths-between-requires : tie.Need-widths-between-requires
+widths-between-requires c κs = (omega arith, omega (arith, known-in (c .before .shape3 .given .1) _ (c .before .before .before .pre) .count .high))
 
 mul-result-3 : tie.Need-mul-result-3
 mul-result-3 c = search needs
@@ -86,8 +87,8 @@ unfolding endIn
 returns-2 c = rw (c .before .before .before .shape2 .given .1)
 
 returns-3 : tie.Need-returns-3
-unfolding endIn
-returns-3 c = rw (c .before .before .shape3 .given .1, c .widths-of .ensures .0)
+unfolding endIn widths
+returns-3 c = rw (c .before .before .shape3 .given .1, ← c .widths-between .ensures .0) (omega arith)
 
 returns-4 : tie.Need-returns-4
 unfolding endIn
@@ -114,9 +115,9 @@ end-spec =
     add-result
     mul-result-2
     enum-known-shape-3
-    cast-widths-of
-    mul-widths-of
-    widths-of-requires
+    cast-widths-between
+    mul-widths-between
+    widths-between-requires
     mul-result-3
     enum-known-shape-4
     cast-result-4

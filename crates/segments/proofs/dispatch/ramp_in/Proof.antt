@@ -25,17 +25,12 @@ pitched-ramp-requires c κs =
 enum-known-shape-3 : tie.Need-enum-known-shape-3
 enum-known-shape-3 c = search needs
 
-cast-multi-span-ramp : tie.Need-cast-multi-span-ramp
-cast-multi-span-ramp c = search needs
-
-multi-span-ramp-requires : tie.Need-multi-span-ramp-requires
+spans-ramp-requires : tie.Need-spans-ramp-requires
 unfolding countIn
-multi-span-ramp-requires c κs =
+spans-ramp-requires c κs =
     let p = c .before .before .before .pre in
     let e = c .before .shape3 .given .1 in
-    let m = known-in e _ (p .1) in
-    let lt = known-index e _ _ _ (p .3) in
-    (p .2, m .count .high, lt, m .slopes _ lt)
+    (known-in e _ (p .1), known-index e _ _ _ (p .3), p .2)
 
 enum-known-shape-4 : tie.Need-enum-known-shape-4
 enum-known-shape-4 c = search needs
@@ -101,7 +96,7 @@ returns-2 c = rw (c .before .before .shape2 .given .1) (c .pitched-ramp .ensures
 
 returns-3 : tie.Need-returns-3
 unfolding stretchIn
-returns-3 c = rw (c .before .before .shape3 .given .1) (c .multi-span-ramp .ensures)
+returns-3 c = rw (c .before .before .shape3 .given .1) (c .spans-ramp .ensures)
 
 returns-4 : tie.Need-returns-4
 unfolding stretchIn
@@ -124,8 +119,7 @@ ramp-in-spec =
     enum-known-shape-2
     pitched-ramp-requires
     enum-known-shape-3
-    cast-multi-span-ramp
-    multi-span-ramp-requires
+    spans-ramp-requires
     enum-known-shape-4
     cast-cylindrical-ramp
     cast-cylindrical-ramp-2

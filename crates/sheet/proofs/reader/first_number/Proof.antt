@@ -1,5 +1,5 @@
 use mathlib.Core.Path.{sym, ap, _∙_}
-use Rattle.items.specs.declared.decoding.Item.{Item}
+use Rattle.item_forms.specs.declared.Item.{Item}
 use Rattle.sheet.specs.Sheet.{ruleNumber, ruleOf}
 use Rattle.sheet.proofs.Places.{first-misplaced}
 use borrow.Author.Needs.{needs}
@@ -18,7 +18,7 @@ misplaced-number-requires c κs = search needs
 returns : tie.Need-returns
 returns c =
     let d = c .before .before .decode in
-    c .misplaced-number .ensures ∙ (first-misplaced (d .result .item) (d .result .slopes) (c .before .match .keys2) .0 ∙ ap (ruleOf 0) (d .ensures))
+    c .misplaced-number .ensures ∙ (first-misplaced (d .result .item) (d .result .spans) (c .before .match .keys2) .0 ∙ ap (ruleOf 0) (d .ensures))
 
 site-data-refusal-requires : tie.Need-site-data-refusal-requires
 site-data-refusal-requires c κs = search needs
@@ -27,7 +27,7 @@ returns-2 : tie.Need-returns-2
 returns-2 c =
     let d = c .before .before .before .before .decode in
     c .site-data-refusal .ensures
-    ∙ (ap (λ (x : Item). ruleNumber 0 x (d .result .slopes)) (sym (c .before .before .item .given .1)) ∙ ap (ruleOf 0) (d .ensures))
+    ∙ (ap (λ (x : Item). ruleNumber 0 x (d .result .spans)) (sym (c .before .before .item .given .1)) ∙ ap (ruleOf 0) (d .ensures))
 
 pub first-number-spec : {M : Type 1} → statement M
 first-number-spec =

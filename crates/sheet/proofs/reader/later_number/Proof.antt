@@ -1,5 +1,5 @@
 use mathlib.Core.Path.{sym, ap, _∙_}
-use Rattle.items.specs.declared.decoding.Item.{Item}
+use Rattle.item_forms.specs.declared.Item.{Item}
 use Rattle.sheet.specs.Sheet.{ruleNumber, ruleOf}
 use Rattle.sheet.proofs.Places.{later-misplaced}
 use borrow.Author.Needs.{needs}
@@ -18,7 +18,7 @@ misplaced-number-requires c κs = search needs
 returns : tie.Need-returns
 returns c =
     let d = c .before .before .decode in
-    c .misplaced-number .ensures ∙ (later-misplaced (d .result .item) (d .result .slopes) (c .before .match .keys2) .0 ∙ ap (ruleOf 1) (d .ensures))
+    c .misplaced-number .ensures ∙ (later-misplaced (d .result .item) (d .result .spans) (c .before .match .keys2) .0 ∙ ap (ruleOf 1) (d .ensures))
 
 shape-refusal-requires : tie.Need-shape-refusal-requires
 shape-refusal-requires c κs = search needs
@@ -28,7 +28,7 @@ returns-2 c =
     let b = c .before .before .before .before in
     let d = b .before .before .decode in
     c .shape-refusal .ensures
-    ∙ (ap (λ (x : Item). ruleNumber 1 x (d .result .slopes)) (sym (b .item .given .1)) ∙ ap (ruleOf 1) (d .ensures))
+    ∙ (ap (λ (x : Item). ruleNumber 1 x (d .result .spans)) (sym (b .item .given .1)) ∙ ap (ruleOf 1) (d .ensures))
 
 pub later-number-spec : {M : Type 1} → statement M
 later-number-spec =

@@ -25,7 +25,7 @@ mul-if1 c = search needs
 
 own :
     (c : tie.After-slope-load) → let s = c .before .before .before in
-    Own (s .args .factor) (s .args .sk) (s .args .slopes .now) (s .args .i) (c .before .before .slope-at .result) (c .slope-load .result)
+    Own (s .args .factor) (s .args .sk) (s .args .spans .now) (s .args .i) (c .before .before .slope-at .result) (c .slope-load .result)
 unfolding guarded
 own c =
     let s = c .before .before in

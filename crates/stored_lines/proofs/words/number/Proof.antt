@@ -6,7 +6,7 @@ use Rattle.stored_lines.proofs.words.number.Statement.{statement}
 use Rattle.stored_lines.proofs.words.number.Tie as tie
 
 abbrev Inv-loop : tie.InvT-loop
-Inv-loop text at first k wanted number₀ n₀ i₀ number n i = n ≤ 99
+Inv-loop text at first k wanted number₀ n₀ i₀ number n i = n ≤ 199
 
 abbrev μ-loop : tie.MeasureT-loop
 μ-loop text at first k wanted number₀ n₀ i₀ number n i = length text - i

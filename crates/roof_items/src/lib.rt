@@ -1,0 +1,87 @@
+// The items of a roof that has no spans beside it, kinds 2, 3, 5, 6 and 7.
+ghost use mathlib.Core.Path.{_≡_};
+ghost use Rattle.roof_items.specs.RoofItems.{monopitchItem, pitchedItem, cylindricalItem, abuttingItem, projectionItem};
+use figures::Shape;
+use item_forms::Decoded;
+use item_forms::ITEM_LENGTH;
+use item_forms::Item;
+use item_forms::alone;
+use item_forms::refused;
+use item_forms::slope_at;
+use little_endian::u32_at;
+
+// A monopitch roof.
+pub fn monopitch_item(p: &[u8]) -> Decoded
+    ensures { λ r. ⌜ r ≡ monopitchItem (now (p .entry)) ⌝ }
+{
+    if p.len() != 8 {
+        return refused(ITEM_LENGTH);
+    }
+    let shape = Shape::Monopitch {
+        slope: slope_at(p, 1, 4),
+        guard: p[3],
+    };
+    alone(Item::RoofItem(shape))
+}
+
+// A pitched roof.
+pub fn pitched_item(p: &[u8]) -> Decoded
+    ensures { λ r. ⌜ r ≡ pitchedItem (now (p .entry)) ⌝ }
+{
+    if p.len() != 15 {
+        return refused(ITEM_LENGTH);
+    }
+    let shape = Shape::Pitched {
+        left: slope_at(p, 1, 7),
+        right: slope_at(p, 3, 11),
+        left_guard: p[5],
+        right_guard: p[6],
+    };
+    alone(Item::RoofItem(shape))
+}
+
+// A cylindrical roof.
+pub fn cylindrical_item(p: &[u8]) -> Decoded
+    ensures { λ r. ⌜ r ≡ cylindricalItem (now (p .entry)) ⌝ }
+{
+    if p.len() != 9 {
+        return refused(ITEM_LENGTH);
+    }
+    let shape = Shape::Cylindrical {
+        rise: u32_at(p, 1),
+        span: u32_at(p, 5),
+    };
+    alone(Item::RoofItem(shape))
+}
+
+// A lower flat roof at a taller one.
+pub fn abutting_item(p: &[u8]) -> Decoded
+    ensures { λ r. ⌜ r ≡ abuttingItem (now (p .entry)) ⌝ }
+{
+    if p.len() != 20 {
+        return refused(ITEM_LENGTH);
+    }
+    let shape = Shape::Abutting {
+        b1: u32_at(p, 1),
+        b2: u32_at(p, 5),
+        h: u32_at(p, 9),
+        slope: slope_at(p, 17, 13),
+        guard: p[19],
+    };
+    alone(Item::RoofItem(shape))
+}
+
+// A projection on a flat roof.
+pub fn projection_item(p: &[u8]) -> Decoded
+    ensures { λ r. ⌜ r ≡ projectionItem (now (p .entry)) ⌝ }
+{
+    if p.len() != 13 {
+        return refused(ITEM_LENGTH);
+    }
+    let shape = Shape::Projection {
+        h: u32_at(p, 1),
+        left: u32_at(p, 5),
+        right: u32_at(p, 9),
+    };
+    alone(Item::RoofItem(shape))
+}
