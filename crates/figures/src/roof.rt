@@ -59,7 +59,7 @@ pub struct Roof {
     pub spans: [u32; SPAN_NUMBERS],
 }
 
-// The kind of a shape, by document 01's number.
+// The kind of a shape, by the documents' number.
 pub fn kind_of(shape: Shape) -> u8
     ensures { λ r. ⌜ r ≡ kindOf shape ⌝ }
 {

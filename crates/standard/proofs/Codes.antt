@@ -59,9 +59,9 @@ persistent-codes kind code h =
     low n p q e = let w = one code 1 2 n p q e in below (w .low) (w .high)
 
 -- what an accidental code tells
-pub record Accidental (kind situation code : ℕ) : Type 0 where
-  pub allowed : (eqb situation 1 || (eqb situation 3 && eqb code 11)) ≡ true
-  pub shape : persistentBy kind (code - 10) ≡ true
+record Accidental (kind situation code : ℕ) : Type 0 where
+  allowed : (eqb situation 1 || (eqb situation 3 && eqb code 11)) ≡ true
+  shape : persistentBy kind (code - 10) ≡ true
 
 accidental-parts : (kind situation code : ℕ) → accidentalIn kind situation code ≡ true → Accidental kind situation code
 accidental-parts kind situation code k =

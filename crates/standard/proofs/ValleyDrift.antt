@@ -33,7 +33,7 @@ module _ (spans : List ℕ) where
       ⊎-elim (λ same. rw same (omega arith)) (λ below. omega (arith, widths-up m n (omega arith))) (eq-or-lt-of-le h)
 
   -- The valley's two slopes lie between its two ridges.
-  pub ridges : (v : ℕ) → widths spans (2 * v + 3) ≡ widths spans (2 * v + 1) + leftLength spans v + rightLength spans v
+  ridges : (v : ℕ) → widths spans (2 * v + 3) ≡ widths spans (2 * v + 1) + leftLength spans v + rightLength spans v
   unfolding widths
   ridges v =
       let e : 2 * v + 3 ≡ suc (suc (2 * v + 1)) = omega arith in
@@ -53,7 +53,7 @@ module _ (spans : List ℕ) where
         let up : widths spans (suc (2 * v + 3)) ≤ widths spans (2 * count) = rw e at (widths-up (2 * v + 4) (2 * count) (omega arith)) in
         omega (arith, up, f .spans (2 * v + 3) (omega arith) .width .low)
 
-    pub drift-length : 0 < leftLength spans v + rightLength spans v
+    drift-length : 0 < leftLength spans v + rightLength spans v
     drift-length = omega (arith, f .spans (2 * v + 1) (omega arith) .width .low)
 
     valley-formed : (sk : ℕ) → WellFormed (valleyDrift sk spans count v) 4 (4 * widths spans (2 * count))
