@@ -88,7 +88,7 @@ pub fn write(
 {
     // The factor is the same for every segment.
     let base = codes::base_code(code);
-    let factor = codes::factor(site, code);
+    let factor = code_rules::factor(site, code);
     let sk = site.sk as u64;
     let mut start: u32 = 0;
     let mut i = 0;
@@ -124,7 +124,7 @@ pub fn make(site: Site, roof: Roof, code: u8, out: &mut [u32]) -> Made
     ensures written { λ r. ⌜ now (out .exit) ≡ contents recommendedFigures site roof code r (now (out .entry)) ⌝ }
     ensures few { λ r. ⌜ madeCount r ≤ 32 ⌝ }
 {
-    let number = codes::refusal(site, roof, code);
+    let number = code_rules::refusal(site, roof, code);
     if number != 0 {
         return Made::Refused(number);
     }

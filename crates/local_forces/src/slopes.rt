@@ -64,7 +64,7 @@ pub fn whole_load(site: Site, slope: Slope, guard: u8) -> u64
         slope,
         guard,
         false,
-        codes::factor(site, UNDRIFTED),
+        code_rules::factor(site, UNDRIFTED),
         site.sk as u64,
     )
 }

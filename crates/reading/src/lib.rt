@@ -86,7 +86,7 @@ pub fn load_at(site: Site, roof: Roof, code: u8, station: u32) -> Reading
     ensures answer { λ r. ⌜ readingMeans r ≡ loadAnswer recommendedFigures site roof code station ⌝ }
     ensures distance { λ r. ⌜ distanceOf site roof code station r ⌝ }
 {
-    let number = codes::refusal(site, roof, code);
+    let number = code_rules::refusal(site, roof, code);
     if number != 0 {
         return Reading::Refused(number);
     }

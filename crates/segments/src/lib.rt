@@ -45,6 +45,6 @@ pub fn ramp_at(
     ensures { λ r. ⌜ (r ≡ rampOf (stretch national site (roofOf shape (now (spans .entry))) code i)) × RampIn r ⌝ }
 {
     let base = codes::base_code(code);
-    let factor = codes::factor(site, code);
+    let factor = code_rules::factor(site, code);
     dispatch::ramp_in(national, shape, spans, base, factor, site.sk as u64, i)
 }

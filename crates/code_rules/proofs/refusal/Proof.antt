@@ -1,8 +1,8 @@
 use Rattle.standard.specs.Arrangements.{exists}
 use Rattle.standard.specs.Answers.{codeRefusal}
 use borrow.Author.Needs.{needs}
-use Rattle.codes.proofs.refusal.Statement.{statement}
-use Rattle.codes.proofs.refusal.Tie as tie
+use Rattle.code_rules.proofs.refusal.Statement.{statement}
+use Rattle.code_rules.proofs.refusal.Tie as tie
 
 refusal-requires : tie.Need-refusal-requires
 refusal-requires c κs = search needs

@@ -1,7 +1,7 @@
 use native.Mathlib.Omega.{arith}
 use borrow.Author.Needs.{needs}
-use Rattle.codes.proofs.exceptional_factor.Statement.{statement}
-use Rattle.codes.proofs.exceptional_factor.Tie as tie
+use Rattle.code_rules.proofs.exceptional_factor.Statement.{statement}
+use Rattle.code_rules.proofs.exceptional_factor.Tie as tie
 
 is-accidental-requires : tie.Need-is-accidental-requires
 is-accidental-requires c κs = search needs

@@ -5,8 +5,8 @@ use Rattle.standard.specs.Arrangements.{factorOf}
 use native.Mathlib.Nat.{mul-le-mul}
 use native.Mathlib.Omega.{arith}
 use borrow.Author.Needs.{needs}
-use Rattle.codes.proofs.factor.Statement.{statement}
-use Rattle.codes.proofs.factor.Tie as tie
+use Rattle.code_rules.proofs.factor.Statement.{statement}
+use Rattle.code_rules.proofs.factor.Tie as tie
 
 at-most : (s : Site) (x : ℕ) → SiteIn s → x ≤ 300 → s .ce * s .ct * x ≤ 3600000
 at-most s x p h = omega (arith, mul-le-mul (mul-le-mul (p .ce .high) (p .ct .high)) h)
