@@ -47,7 +47,7 @@ segment-at-requires c κs =
     let f = k .factor .ensures in
     let index = arranged-index _ (s .args .site) _ _ _ _ _ _ b (f .0) (l .i) (p .1) (c .loop-test .taken) in
     let end = arranged-end _ (s .args .site) _ _ _ _ _ _ b (f .0) (l .i) (p .1) (c .loop-test .taken) (p .0) in
-    ((p .0 .national, shape-in _ _ (p .0 .roof), grounded _ _ (p .0 .site) (f .1), index), (l .inv .1, end))
+    ((p .0 .national, shape-in _ _ (p .0 .roof), grounded _ _ (p .0 .site) (f .1), omega (arith, index)), (l .inv .1, end))
 
 mul-put : tie.Need-mul-put Inv-loop μ-loop
 mul-put c =
