@@ -9,6 +9,7 @@ mod drifts;
 mod ffi;
 mod fuzz;
 mod measure;
+mod pairs;
 mod random;
 mod tally;
 
@@ -34,6 +35,7 @@ fn main() -> ExitCode {
     fuzz.sweep_codes();
     fuzz.sweep_refused();
     fuzz.sweep_drifts();
+    fuzz.sweep_pairs();
     fuzz.run(sheets);
     let tally = &fuzz.checker.tally;
     tally.print();

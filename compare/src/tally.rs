@@ -41,6 +41,8 @@ const MAP_REFUSALS: [usize; 3] = [7, 14, 15];
 /// often as there are rounds.
 const VALLEYS: u64 = 120 * 2;
 pub const DRIFT_ROUNDS: u64 = 24;
+/// Pairs of the sheet whose every offset and every length is asked for.
+pub const PAIRS: usize = 3;
 /// Disagreements that are written out.
 const SHOWN: u64 = 5;
 
@@ -75,6 +77,7 @@ pub struct Tally {
     missing: [u64; MISSING.len()],
     pub map: MapTally,
     pub drifts: DriftTally,
+    pub pairs: PairTally,
     disagreements: u64,
 }
 
@@ -157,6 +160,29 @@ impl DriftTally {
     }
 }
 
+/// What was asked about the numbers of a pair.
+#[derive(Default)]
+pub struct PairTally {
+    /// Every offset and every length of each pair.
+    pub asked: u64,
+    /// Sheets that were accepted, by the pair that was changed.
+    pub accepted: [u64; PAIRS],
+}
+
+impl PairTally {
+    fn is_good(&self) -> bool {
+        self.asked == (2 * PAIRS as u64) << 16 && self.accepted.iter().all(|&count| count > 1_000)
+    }
+
+    fn print(&self) {
+        let [first, second, third] = self.accepted;
+        println!(
+            "PAIRS {} offsets and lengths in turn, accepted {first}, {second} and {third}",
+            self.asked
+        );
+    }
+}
+
 impl Tally {
     pub fn new() -> Self {
         Self {
@@ -173,6 +199,7 @@ impl Tally {
             missing: [0; MISSING.len()],
             map: MapTally::default(),
             drifts: DriftTally::default(),
+            pairs: PairTally::default(),
             disagreements: 0,
         }
     }
@@ -225,7 +252,7 @@ impl Tally {
     }
 
     /// No disagreement, and every refusal, every slice length, every missing index, every place of
-    /// the map, every situation and every valley was met.
+    /// the map, every situation, every valley and every number of a pair was met.
     pub fn is_good(&self) -> bool {
         self.agrees()
             && self.refused[1..].iter().all(|&count| count > 0)
@@ -236,6 +263,7 @@ impl Tally {
             && self.map.is_good()
             && self.situations.iter().all(|&count| count > 0)
             && self.drifts.is_good()
+            && self.pairs.is_good()
     }
 
     pub fn print(&self) {
@@ -264,6 +292,7 @@ impl Tally {
         }
         self.map.print();
         self.drifts.print();
+        self.pairs.print();
         self.print_lengths();
         self.print_missing();
         println!("DISAGREEMENTS {}", self.disagreements);

@@ -16,7 +16,7 @@ fn byte_to_u16(x: u8) -> u16
     x as u16
 }
 
-fn byte_to_u32(x: u8) -> u32
+pub fn byte_to_u32(x: u8) -> u32
     ensures { λ r. ⌜ (r ≡ x) × (r < 256) ⌝ }
 {
     x as u32

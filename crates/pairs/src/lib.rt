@@ -2,8 +2,15 @@
 ghost use mathlib.Core.Path.{_≡_};
 ghost use Prim.Native.Nat.{_+_, _*_, _≤_};
 ghost use lib.ListN.{length};
-ghost use Rattle.pairs.specs.Pairs.{count, pairNumber, inTurn, pairsVerdict, verdictMeans};
+ghost use Rattle.pairs.specs.Pairs.{count, offset, size, pairNumber, inTurn, pairsVerdict, verdictMeans};
+
+mod words;
+
 use little_endian::index_at;
+pub use words::Pair;
+pub use words::join;
+pub use words::split;
+pub use words::word;
 
 // Refusals of a sheet's pairs, by document 01's numbers.
 const SHEET_LIMITS: u8 = 1;
@@ -22,6 +29,15 @@ pub enum Verdict {
     Refused(u8, usize),
 }
 
+// The pair at an index, where its four bytes are in the sheet. Every pair is read here.
+pub fn pair_at(s: &[u8], i: usize) -> Pair
+    requires { ⌜ 2 + 4 * i + 4 ≤ length (now s) ⌝ }
+    ensures { λ r. ⌜ (r .offset ≡ offset (now (s .entry)) i) × (r .size ≡ size (now (s .entry)) i) ⌝ }
+{
+    let at = 2 + 4 * i;
+    split(word(s[at], s[at + 1], s[at + 2], s[at + 3]))
+}
+
 // The n pairs in turn.
 fn check_pairs(s: &[u8], n: usize) -> Verdict
     requires { ⌜ (n ≡ count (now s)) × (2 + 4 * n ≤ length (now s)) ⌝ }
@@ -30,12 +46,12 @@ fn check_pairs(s: &[u8], n: usize) -> Verdict
     let mut earliest = 2 + 4 * n;
     let mut i = 0;
     while i < n {
-        let offset = index_at(s, 2 + 4 * i);
-        let size = index_at(s, 2 + 4 * i + 2);
+        let pair = pair_at(s, i);
+        let offset = pair.offset as usize;
         if offset < earliest {
             return Verdict::Refused(PAIR, i);
         }
-        earliest = offset + size;
+        earliest = offset + pair.size as usize;
         if s.len() < earliest {
             return Verdict::Refused(PAIR, i);
         }

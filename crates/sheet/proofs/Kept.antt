@@ -157,9 +157,11 @@ module _ (ceiling : Ceiling) (s : List ℕ) where
     unfolding place placeBy
     place-none n e h = rw (e, le-ltb x n h)
 
-    pub place-found : (n : ℕ) → sheetVerdict ceiling s ≡ accepted n → x < n → accepted (record { start = offset s x; bytes = size s x }) ≡ place ceiling s x
+    pub place-found :
+        (n a b : ℕ) → sheetVerdict ceiling s ≡ accepted n → x < n → a ≡ offset s x → b ≡ size s x
+        → accepted (record { start = a; bytes = b }) ≡ place ceiling s x
     unfolding place placeBy
-    place-found n e h = rw (e, lt-ltb x n h)
+    place-found n a b e h f g = rw (e, lt-ltb x n h, f, g)
 
 -- the item that a refusal names is one of those walked over
 named-by :

@@ -9,10 +9,10 @@ ghost use Rattle.pairs.specs.Pairs.{accepted, verdictMeans};
 ghost use Rattle.sheet.specs.Sheet.{sheetVerdict, place, partAt, locatedMeans};
 use items::Item;
 use items::decode;
-use little_endian::index_at;
 use map_sites::site_data_refusal;
 use pairs::Ceiling;
 use pairs::Verdict;
+use pairs::pair_at;
 use pairs::read_pairs;
 use roof_rules::shape_refusal;
 
@@ -77,9 +77,9 @@ pub fn part_at<'a>(s: &'a [u8], index: usize) -> &'a [u8]
     requires { ⌜ (2 + 4 * index + 4 ≤ length (now s)) × (offset (now s) index + size (now s) index ≤ length (now s)) ⌝ }
     ensures { λ r. ⌜ now r ≡ part (now (s .entry)) index ⌝ }
 {
-    let start = index_at(s, 2 + 4 * index);
-    let bytes = index_at(s, 2 + 4 * index + 2);
-    &s[start..start + bytes]
+    let pair = pair_at(s, index);
+    let start = pair.offset as usize;
+    &s[start..start + pair.size as usize]
 }
 
 // The n items in turn, where the pairs are accepted.
@@ -118,9 +118,8 @@ fn locate_under(s: &[u8], ceiling: Ceiling, index: usize) -> Located
             if n <= index {
                 return Located::Nowhere(NO_SUCH_ITEM, index);
             }
-            let offset = index_at(s, 2 + 4 * index);
-            let size = index_at(s, 2 + 4 * index + 2);
-            Located::At(offset, size)
+            let pair = pair_at(s, index);
+            Located::At(pair.offset as usize, pair.size as usize)
         }
     }
 }

@@ -1,10 +1,10 @@
-use mathlib.Core.Path.{sym}
+use mathlib.Core.Path.{_≡_, sym, _∙_}
 use Rattle.pairs.proofs.Turns.{turn-refused, turn-next, turn-end, turn-start, pair-early, pair-past, pair-sound}
 use Rattle.pairs.specs.Pairs.{earliest, pairNumber, inTurn}
 use Prim.Native.Nat.{_≤_, _-_}
-use mathlib.Core.Path.{_≡_, _∙_}
 use native.Mathlib.Numerals.{add-one}
 use native.Mathlib.Omega.{arith}
+use borrow.Author.Needs.{needs}
 use Rattle.pairs.proofs.check_pairs.Statement.{statement}
 use Rattle.pairs.proofs.check_pairs.Tie as tie
 
@@ -23,38 +23,26 @@ add-earliest c = omega arith
 loop-holds : tie.Need-loop-holds Inv-loop μ-loop
 loop-holds c = (omega arith, omega arith, turn-start _ _ _)
 
-mul-index-at : tie.Need-mul-index-at Inv-loop μ-loop
-mul-index-at c = omega arith
+pair-at-requires : tie.Need-pair-at-requires Inv-loop μ-loop
+pair-at-requires c κs = omega arith
 
-add-index-at : tie.Need-add-index-at Inv-loop μ-loop
-add-index-at c = omega arith
-
-index-at-requires : tie.Need-index-at-requires Inv-loop μ-loop
-index-at-requires c κs = omega arith
-
-mul-index-at-2 : tie.Need-mul-index-at-2 Inv-loop μ-loop
-mul-index-at-2 c = omega arith
-
-add-index-at-2 : tie.Need-add-index-at-2 Inv-loop μ-loop
-add-index-at-2 c = omega arith
-
-add-index-at-3 : tie.Need-add-index-at-3 Inv-loop μ-loop
-add-index-at-3 c = omega arith
-
-index-at-requires-2 : tie.Need-index-at-requires-2 Inv-loop μ-loop
-index-at-requires-2 c κs = omega arith
+cast-offset : tie.Need-cast-offset Inv-loop μ-loop
+cast-offset c = search needs
 
 returns : tie.Need-returns Inv-loop μ-loop
 returns c =
     let t = c .before .before .before in
     turn-refused _ _ _ _ 2 (t .loop-test .taken) (pair-early _ _ (omega arith)) (λ z. omega arith) ∙ sym (t .before .loop .inv .2)
 
+cast-earliest : tie.Need-cast-earliest Inv-loop μ-loop
+cast-earliest c = search needs
+
 add-earliest-2 : tie.Need-add-earliest-2 Inv-loop μ-loop
-add-earliest-2 c = omega arith
+add-earliest-2 c = search needs
 
 returns-2 : tie.Need-returns-2 Inv-loop μ-loop
 returns-2 c =
-    let t = c .before .before .before .before in
+    let t = c .before .before .before .before .before in
     turn-refused _ _ _ _ 2 (t .loop-test .taken) (pair-past _ _ (omega arith) (omega arith)) (λ z. omega arith) ∙ sym (t .before .loop .inv .2)
 
 add-i : tie.Need-add-i Inv-loop μ-loop
@@ -65,7 +53,7 @@ loop-less c = omega arith
 
 loop-again : tie.Need-loop-again Inv-loop μ-loop
 loop-again c =
-    let t = c .before .before .before .before in
+    let t = c .before .before .before .before .before in
     let l = t .before .loop in
     (omega arith, rw (add-one (l .i)) (omega arith), l .inv .2 ∙ turn-next _ _ _ _ (t .loop-test .taken) (pair-sound _ _ (omega arith) (omega arith)))
 
@@ -81,14 +69,10 @@ check-pairs-spec =
     mul-earliest
     add-earliest
     loop-holds
-    mul-index-at
-    add-index-at
-    index-at-requires
-    mul-index-at-2
-    add-index-at-2
-    add-index-at-3
-    index-at-requires-2
+    pair-at-requires
+    cast-offset
     returns
+    cast-earliest
     add-earliest-2
     returns-2
     add-i

@@ -1,4 +1,4 @@
-use native.Mathlib.Nat.{add-sub-cancel-left, add-sub-cancel}
+use native.Mathlib.Nat.{add-sub-cancel-left}
 use Prim.Native.Nat.{_+_, _≤_}
 use lib.ListN.{length}
 use Rattle.sheet.proofs.Kept.{located}
@@ -47,7 +47,7 @@ slice-aggregate-result : tie.Need-slice-aggregate-result
 slice-aggregate-result c = search needs
 
 returns : tie.Need-returns
-returns c = simp (found (c .before), add-sub-cancel-left, add-sub-cancel)
+returns c = simp (found (c .before), add-sub-cancel-left)
 
 returns-2 : tie.Need-returns-2
 returns-2 c =

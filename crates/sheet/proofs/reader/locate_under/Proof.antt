@@ -31,34 +31,20 @@ enum-known-n c = search needs
 returns : tie.Need-returns
 returns c = place-none _ _ _ _ (said (c .before)) (omega arith)
 
-mul-index-at : tie.Need-mul-index-at
-mul-index-at c = omega (arith, here c .pair)
+pair-at-requires : tie.Need-pair-at-requires
+pair-at-requires c κs = omega (arith, here c .pair)
 
-add-index-at : tie.Need-add-index-at
-add-index-at c = omega (arith, here c .pair)
+cast-t11 : tie.Need-cast-t11
+cast-t11 c = search needs
 
-index-at-requires : tie.Need-index-at-requires
-index-at-requires c κs = omega (arith, here c .pair)
-
-mul-index-at-2 : tie.Need-mul-index-at-2
-mul-index-at-2 c = omega (arith, here (c .before) .pair)
-
-add-index-at-2 : tie.Need-add-index-at-2
-add-index-at-2 c = omega (arith, here (c .before) .pair)
-
-add-index-at-3 : tie.Need-add-index-at-3
-add-index-at-3 c = omega (arith, here (c .before) .pair)
-
-index-at-requires-2 : tie.Need-index-at-requires-2
-index-at-requires-2 c κs = omega (arith, here (c .before) .pair)
+cast-t12 : tie.Need-cast-t12
+cast-t12 c = search needs
 
 returns-2 : tie.Need-returns-2
 returns-2 c = place-refused _ _ _ _ _ (sym (c .before .before .before .read .ensures) ∙ ap verdictMeans (c .before .number .given .1))
 
 returns-3 : tie.Need-returns-3
-returns-3 c =
-    let b = c .before .before in
-    rw (c .before .index-at .ensures .0, c .index-at2 .ensures .0) (place-found _ _ _ _ (said (b .before)) (omega arith))
+returns-3 c = place-found _ _ _ _ _ _ (said (c .before .before .before .before)) (omega arith) (omega arith) (omega arith)
 
 pub locate-under-spec : {M : Type 1} → statement M
 locate-under-spec =
@@ -68,12 +54,8 @@ locate-under-spec =
     enum-known-number
     enum-known-n
     returns
-    mul-index-at
-    add-index-at
-    index-at-requires
-    mul-index-at-2
-    add-index-at-2
-    add-index-at-3
-    index-at-requires-2
+    pair-at-requires
+    cast-t11
+    cast-t12
     returns-2
     returns-3)

@@ -3,26 +3,14 @@ use borrow.Author.Needs.{needs}
 use Rattle.sheet.proofs.reader.part_at.Statement.{statement}
 use Rattle.sheet.proofs.reader.part_at.Tie as tie
 
-mul-index-at : tie.Need-mul-index-at
-mul-index-at c = search needs
+pair-at-requires : tie.Need-pair-at-requires
+pair-at-requires c κs = search needs
 
-add-index-at : tie.Need-add-index-at
-add-index-at c = search needs
+cast-start : tie.Need-cast-start
+cast-start c = search needs
 
-index-at-requires : tie.Need-index-at-requires
-index-at-requires c κs = search needs
-
-mul-index-at-2 : tie.Need-mul-index-at-2
-mul-index-at-2 c = search needs
-
-add-index-at-2 : tie.Need-add-index-at-2
-add-index-at-2 c = search needs
-
-add-index-at-3 : tie.Need-add-index-at-3
-add-index-at-3 c = search needs
-
-index-at-requires-2 : tie.Need-index-at-requires-2
-index-at-requires-2 c κs = search needs
+cast-result : tie.Need-cast-result
+cast-result c = search needs
 
 add-result : tie.Need-add-result
 add-result c = search needs
@@ -37,19 +25,17 @@ part-result-end : tie.Need-part-result-end
 part-result-end c = search needs
 
 returns : tie.Need-returns
-returns c = simp (c .before .before .index-at .ensures .0, c .before .index-at2 .ensures .0, add-sub-cancel-left)
+returns c =
+    let r = c .before .before .before .pair-at .ensures in
+    simp (r .0, r .1, add-sub-cancel-left)
 
 pub part-at-spec : {M : Type 1} → statement M
 part-at-spec =
     tie.close
     (tie.spec
-    mul-index-at
-    add-index-at
-    index-at-requires
-    mul-index-at-2
-    add-index-at-2
-    add-index-at-3
-    index-at-requires-2
+    pair-at-requires
+    cast-start
+    cast-result
     add-result
     sub-result
     part-result-start
