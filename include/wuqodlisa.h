@@ -57,7 +57,8 @@ uint32_t snow_verdict(const uint8_t *sheet, size_t length);
  * item 0, has no arrangement: 13. */
 uint32_t snow_make(const uint8_t *sheet, size_t length, size_t item, uint8_t code, uint32_t *out, size_t room);
 
-/* The load at a station, in N/m2, or a refusal (1 to 10, 14, 15, 12 for the index, 13, 12 for the station). */
+/* The load at a station, in whole N/m2, never below the exact rule and less than 1.2 N/m2 above it, or a refusal (1 to 10,
+ * 14, 15, 12 for the index, 13, 12 for the station). */
 uint32_t snow_load(const uint8_t *sheet, size_t length, size_t item, uint8_t code, uint32_t station);
 
 /* The overhang at the eave of a slope (1 left or only, 2 right), in N/m, SNOW_NONE, or a refusal (1 to 10, 14, 15,

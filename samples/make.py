@@ -109,6 +109,9 @@ SHEETS = {
     "lower_gamma": sheet(site(2_900, altitude=740), lower(18_000, 12_000, 1_800, 9_000, 12.0)),
     "lower_low": sheet(site(1_000), lower(12_000, 9_000, 300, 6_000, 5.0)),
     "lower_falls": sheet(site(1_700, situation=1), lower(22_000, 26_000, 9_000, 11_000, 45.0, guard=1)),
+    "lower_tenths": sheet(
+        site(688), lower(7_136, 20_000, 6_003, 6_261, 20.0), lower(8_000, 2_000, 4_500, 7_000, 25.0)
+    ),
     # Kind 7
     "projection": sheet(site(1_300), projection(1_200, 8_000, 12_000)),
     "projection_cut": sheet(site(900), projection(1_500, 2_500, 9_000)),

@@ -2,7 +2,7 @@
 
 use std::ops::Range;
 
-use crate::loads::{self, Fall, Shape};
+use crate::loads::{self, Fall, Load, Rounded, Shape};
 use crate::sheet::{DriftRoof, LowerRoof, Roof, Site, Situation, Slope, MAX_SLOPES};
 
 /// Added to a code for the same shape under an exceptional fall.
@@ -16,41 +16,49 @@ const QUARTERS: i32 = 4;
 ///
 /// The ramp may begin before the roof or end behind it; `start` and `end` lie on the roof.
 #[derive(Clone, Copy, Debug, Default)]
-pub struct Stretch {
+pub struct Stretch<L> {
     pub start: i32,
     pub end: i32,
     pub ramp_start: i32,
     pub ramp_end: i32,
-    pub load_start: u32,
-    pub load_end: u32,
+    pub load_start: L,
+    pub load_end: L,
 }
 
-impl Stretch {
+impl<L> Stretch<L> {
+    /// Whether the roof ends inside the ramp, at the left and at the right.
+    pub fn is_cut(&self) -> [bool; 2] {
+        [self.start != self.ramp_start, self.end != self.ramp_end]
+    }
+}
+
+impl<const PARTS: u64> Stretch<Rounded<PARTS>> {
     /// The segment's four numbers. A cut end has the reading there.
     pub fn segment(&self) -> [u32; 4] {
-        let at_start = if self.start == self.ramp_start {
-            self.load_start
-        } else {
+        let [cut_start, cut_end] = self.is_cut();
+        let at_start = if cut_start {
             self.reading(self.start)
-        };
-        let at_end = if self.end == self.ramp_end {
-            self.load_end
         } else {
+            self.load_start.whole()
+        };
+        let at_end = if cut_end {
             self.reading(self.end)
+        } else {
+            self.load_end.whole()
         };
         [self.start as u32, self.end as u32, at_start, at_end]
     }
 }
 
-/// The stretches of one arrangement, none of length zero.
+/// The stretches of one arrangement, none of length zero, with the loads as they are counted.
 #[derive(Clone, Debug)]
-pub struct Arrangement {
+pub struct Arrangement<L> {
     end: i32,
-    stretches: [Stretch; MAX_SLOPES],
+    stretches: [Stretch<L>; MAX_SLOPES],
     count: usize,
 }
 
-impl Arrangement {
+impl<L: Load> Arrangement<L> {
     /// The arrangement of a code, where there is one for the roof in the site's situation.
     pub fn of(site: &Site, roof: &Roof, code: u8) -> Option<Self> {
         Codes::of(site, roof)
@@ -92,7 +100,7 @@ impl Arrangement {
         self.end as u32
     }
 
-    pub fn stretches(&self) -> &[Stretch] {
+    pub fn stretches(&self) -> &[Stretch<L>] {
         &self.stretches[..self.count]
     }
 
@@ -105,7 +113,7 @@ impl Arrangement {
     }
 
     /// Adds the part of a ramp that lies on the roof.
-    fn ramp(&mut self, from: i32, to: i32, load_start: u32, load_end: u32) {
+    fn ramp(&mut self, from: i32, to: i32, load_start: L, load_end: L) {
         let (start, end) = (from.max(0), to.min(self.end));
         if start >= end {
             return;
@@ -121,7 +129,7 @@ impl Arrangement {
         self.count += 1;
     }
 
-    fn even(&mut self, from: i32, to: i32, load: u32) {
+    fn even(&mut self, from: i32, to: i32, load: L) {
         self.ramp(from, to, load, load);
     }
 }
@@ -198,7 +206,7 @@ fn width_of(slopes: &[Slope]) -> u32 {
     slopes.iter().map(|slope| slope.width).sum()
 }
 
-fn even_slopes(slopes: &[Slope], fall: Fall) -> Arrangement {
+fn even_slopes<L: Load>(slopes: &[Slope], fall: Fall) -> Arrangement<L> {
     let mut made = Arrangement::over(width_of(slopes));
     let mut start = 0;
     for slope in slopes {
@@ -210,7 +218,7 @@ fn even_slopes(slopes: &[Slope], fall: Fall) -> Arrangement {
 }
 
 /// Shape 2 halves the left slope, shape 3 the right one (5.3.3).
-fn pitched(slopes: &[Slope; 2], shape: u8, fall: Fall) -> Arrangement {
+fn pitched<L: Load>(slopes: &[Slope; 2], shape: u8, fall: Fall) -> Arrangement<L> {
     let [left, right] = slopes.map(loads::mu1);
     let [left, right] = match shape {
         1 => [left, right],
@@ -224,7 +232,7 @@ fn pitched(slopes: &[Slope; 2], shape: u8, fall: Fall) -> Arrangement {
     made
 }
 
-fn spans(slopes: &[Slope], shape: u8, fall: Fall) -> Arrangement {
+fn spans<L: Load>(slopes: &[Slope], shape: u8, fall: Fall) -> Arrangement<L> {
     if shape == 1 {
         even_slopes(slopes, fall)
     } else {
@@ -233,11 +241,11 @@ fn spans(slopes: &[Slope], shape: u8, fall: Fall) -> Arrangement {
 }
 
 /// Drifted snow fills the valleys; the two outer slopes stay even (5.3.4).
-fn filled_valleys(slopes: &[Slope], fall: Fall) -> Arrangement {
+fn filled_valleys<L: Load>(slopes: &[Slope], fall: Fall) -> Arrangement<L> {
     let mut made = Arrangement::over(width_of(slopes));
     let last = slopes.len() - 1;
     let mut start = 0;
-    let mut valley = 0;
+    let mut valley = L::default();
     for (place, slope) in slopes.iter().enumerate() {
         let end = start + quarters(slope.width);
         let ridge = fall.load(loads::mu1(*slope));
@@ -256,7 +264,7 @@ fn filled_valleys(slopes: &[Slope], fall: Fall) -> Arrangement {
 
 /// An exceptional drift in one valley, numbered from 1. It falls to nothing at both ridges, and
 /// there is no snow elsewhere (B2).
-fn drift(roof: &DriftRoof, number: usize, site: &Site) -> Arrangement {
+fn drift<L: Load>(roof: &DriftRoof, number: usize, site: &Site) -> Arrangement<L> {
     let (before, after) = roof.slopes().split_at(2 * number);
     let (left, right) = (before[before.len() - 1], after[0]);
     let mu = loads::mu_drift(roof.valleys()[number - 1], left, right, site);
@@ -267,34 +275,36 @@ fn drift(roof: &DriftRoof, number: usize, site: &Site) -> Arrangement {
         valley - quarters(left.width),
         valley + quarters(right.width),
     ];
-    made.even(0, ridges[0], 0);
-    made.ramp(ridges[0], valley, 0, peak);
-    made.ramp(valley, ridges[1], peak, 0);
-    made.even(ridges[1], made.end, 0);
+    let none = L::default();
+    made.even(0, ridges[0], none);
+    made.ramp(ridges[0], valley, none, peak);
+    made.ramp(valley, ridges[1], peak, none);
+    made.even(ridges[1], made.end, none);
     made
 }
 
 /// Even snow, or two triangles with their peaks in the middle of each half (5.3.5).
-fn cylindrical(rise: u32, span: u32, shape: u8, fall: Fall) -> Arrangement {
+fn cylindrical<L: Load>(rise: u32, span: u32, shape: u8, fall: Fall) -> Arrangement<L> {
     let mut made = Arrangement::over(span);
     let loaded = loaded_width(rise, span);
     // A quarter of the loaded width in mm is as many quarter millimetres as ls has mm.
     let quarter = loaded as i32;
     let start = 2 * (span - loaded) as i32;
     let end = start + 4 * quarter;
-    made.even(0, start, 0);
+    let none = L::default();
+    made.even(0, start, none);
     if shape == 1 {
         made.even(start, end, fall.load(Shape::EVEN));
     } else {
         let full = loads::mu_arch(rise, span);
         let (left, right) = (fall.load(full.half()), fall.load(full));
         let middle = start + 2 * quarter;
-        made.ramp(start, start + quarter, 0, left);
-        made.ramp(start + quarter, middle, left, 0);
-        made.ramp(middle, middle + quarter, 0, right);
-        made.ramp(middle + quarter, end, right, 0);
+        made.ramp(start, start + quarter, none, left);
+        made.ramp(start + quarter, middle, left, none);
+        made.ramp(middle, middle + quarter, none, right);
+        made.ramp(middle + quarter, end, right, none);
     }
-    made.even(end, made.end, 0);
+    made.even(end, made.end, none);
     made
 }
 
@@ -311,14 +321,15 @@ pub fn loaded_width(rise: u32, span: u32) -> u32 {
 }
 
 /// A drift from the wall down to the even load (5.3.6).
-fn lower(site: &Site, roof: &LowerRoof, shape: u8, fall: Fall) -> Arrangement {
+fn lower<L: Load>(site: &Site, roof: &LowerRoof, shape: u8, fall: Fall) -> Arrangement<L> {
     let mut made = Arrangement::over(roof.lower_width);
     let even = fall.load(Shape::EVEN);
     if shape == 1 {
         made.even(0, made.end, even);
         return made;
     }
-    let wall = fall.load(loads::mu_slide(roof)) + fall.load(loads::mu_wind(roof, site));
+    let slide: L = fall.load(loads::mu_slide(roof));
+    let wall = slide + fall.load(loads::mu_wind(roof, site));
     let drift = quarters(loads::drift_length(roof.step));
     made.ramp(0, drift, wall, even);
     made.even(drift, made.end, even);
@@ -326,7 +337,7 @@ fn lower(site: &Site, roof: &LowerRoof, shape: u8, fall: Fall) -> Arrangement {
 }
 
 /// A drift on both sides of the projection (6.2).
-fn projection(drift: u32, left: u32, right: u32, peak: u32, fall: Fall) -> Arrangement {
+fn projection<L: Load>(drift: u32, left: u32, right: u32, peak: L, fall: Fall) -> Arrangement<L> {
     let mut made = Arrangement::over(left + right);
     let even = fall.load(Shape::EVEN);
     let foot = quarters(left);

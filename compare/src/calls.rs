@@ -4,6 +4,7 @@ use crate::arrangement::Arrangement;
 use crate::forces;
 use crate::ground;
 use crate::listing;
+use crate::loads::Tenths;
 use crate::sheet::{number, Item, Items, Refusal, Roof, Site, Slope};
 
 /// A refusal is this plus 65,536 × number plus the item; an index above 65,535 shows as 65,535.
@@ -14,7 +15,7 @@ pub const NONE: u32 = u32::MAX;
 pub const LIST_ROOM: usize = listing::ROOM;
 
 /// The site, and the roof asked for unless the item is the site itself.
-type Asked = (Site, Option<Roof>);
+pub type Asked = (Site, Option<Roof>);
 
 /// The count of a sheet's items, or a refusal.
 pub fn verdict(sheet: &[u8]) -> u32 {
@@ -77,8 +78,8 @@ fn count(sheet: &[u8]) -> Result<u32, Refusal> {
     Ok(count)
 }
 
-/// Every rule on the sheet comes before the index asked for.
-fn ask(sheet: &[u8], index: usize) -> Result<Asked, Refusal> {
+/// The figures of an item. Every rule on the sheet comes before the index asked for.
+pub fn ask(sheet: &[u8], index: usize) -> Result<Asked, Refusal> {
     let items = Items::of(sheet)?;
     let count = items.len();
     let mut site = None;
@@ -96,7 +97,7 @@ fn ask(sheet: &[u8], index: usize) -> Result<Asked, Refusal> {
     Ok((site.expect("the first item is a site"), wanted))
 }
 
-fn arrangement(sheet: &[u8], item: usize, code: u8) -> Result<Arrangement, Refusal> {
+fn arrangement(sheet: &[u8], item: usize, code: u8) -> Result<Arrangement<Tenths>, Refusal> {
     let (site, roof) = ask(sheet, item)?;
     roof.and_then(|roof| Arrangement::of(&site, &roof, code))
         .ok_or(Refusal::new(number::NOT_MADE, item))

@@ -4,6 +4,7 @@ use std::hint::black_box;
 
 use second::calls::{self, LIST_ROOM};
 
+use crate::before::Before;
 use crate::draft;
 use crate::ffi;
 use crate::tally::{Call, Tally};
@@ -31,6 +32,8 @@ pub struct Checker {
     theirs: Vec<u32>,
     text: Vec<u8>,
     buffer: Vec<u8>,
+    /// Kept for the next question about the same arrangement of the sheet asked about.
+    before: Option<Before>,
 }
 
 impl Checker {
@@ -41,11 +44,14 @@ impl Checker {
             theirs: vec![MARK; MAX_ROOM + 2 * FRINGE],
             text: vec![MARK_BYTE; MAX_LIST_ROOM],
             buffer: vec![MARK_BYTE; MAX_LIST_ROOM + 2 * FRINGE],
+            before: None,
         }
     }
 
-    /// Compares the verdicts and hands on the count of items.
+    /// Compares the verdicts and hands on the count of items. Every other question about a sheet
+    /// comes behind its verdict.
     pub fn verdict<'a>(&mut self, sheet: &'a [u8]) -> Asked<'a> {
+        self.before = None;
         let ours = calls::verdict(sheet);
         let theirs = ffi::verdict(sheet);
         let accepted = ours < calls::REFUSED;
@@ -85,16 +91,39 @@ impl Checker {
             });
         }
         let written = if ours < calls::REFUSED { 4 * ours } else { 0 };
-        self.ours[FRINGE..FRINGE + written as usize].to_vec()
+        let numbers = self.ours[FRINGE..FRINGE + written as usize].to_vec();
+        if ours == theirs && !numbers.is_empty() {
+            self.recall(asked, item, code);
+            if let Some(before) = &self.before {
+                for returned in before.segments(&numbers) {
+                    self.tally.returned(asked.sheet, &returned, describe);
+                }
+            }
+        }
+        numbers
     }
 
     pub fn load(&mut self, asked: Asked, item: usize, code: u8, station: u32) {
         let ours = calls::load(asked.sheet, item, code, station);
         let theirs = ffi::load(asked.sheet, item, code, station);
         self.tally.drifts.answer(code, ours);
-        self.settle(Call::Load, asked, item, [ours, theirs], || {
-            format!("load item {item} code {code} station {station}")
-        });
+        let describe = || format!("load item {item} code {code} station {station}");
+        self.settle(Call::Load, asked, item, [ours, theirs], describe);
+        if ours == theirs && ours < calls::REFUSED {
+            self.recall(asked, item, code);
+            if let Some(before) = &self.before {
+                let returned = before.at(station, ours);
+                self.tally.returned(asked.sheet, &returned, describe);
+            }
+        }
+    }
+
+    /// Keeps what the loads of an arrangement are held against besides.
+    fn recall(&mut self, asked: Asked, item: usize, code: u8) {
+        let is_kept = |before: &Before| before.is_of(item, code);
+        if !self.before.as_ref().is_some_and(is_kept) {
+            self.before = Before::of(asked.sheet, item, code);
+        }
     }
 
     pub fn overhang(&mut self, asked: Asked, item: usize, slope: u8) {

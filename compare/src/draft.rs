@@ -9,8 +9,8 @@ const MONOPITCH: u8 = 2;
 const PITCHED: u8 = 3;
 pub const MULTI_SPAN: u8 = 4;
 pub const CYLINDRICAL: u8 = 5;
-const LOWER: u8 = 6;
-const PROJECTION: u8 = 7;
+pub const LOWER: u8 = 6;
+pub const PROJECTION: u8 = 7;
 pub const MAP_SITE: u8 = 8;
 pub const DRIFT_ROOF: u8 = 9;
 /// The kinds of roofs, in their order.
@@ -29,6 +29,8 @@ pub const MAX_SPANS: usize = 16;
 pub const MAX_SHEET: usize = 16_384;
 pub const MAX_ITEMS: usize = 32;
 pub const MAX_PITCH: u32 = 800;
+/// The least pitch above a lower roof from which snow slides down.
+const SLIDES_FROM: u32 = 151;
 pub const MAX_ALTITUDE: u32 = 1_500;
 pub const MAX_SITUATION: u32 = 3;
 /// The ground load of a site that has it given.
@@ -214,6 +216,18 @@ fn blank(kind: u8) -> Vec<u8> {
     item
 }
 
+/// An item of a kind, not multi-span, with its fields given in their order.
+pub fn of_figures(kind: u8, figures: &[u32]) -> Vec<u8> {
+    with_figures(blank(kind), figures)
+}
+
+fn with_figures(mut item: Vec<u8>, figures: &[u32]) -> Vec<u8> {
+    for (field, figure) in fields(&item).into_iter().zip(figures) {
+        put(&mut item, field, *figure);
+    }
+    item
+}
+
 fn filled(random: &mut Random, mut item: Vec<u8>) -> Vec<u8> {
     for field in fields(&item) {
         let value = draw(random, field);
@@ -313,6 +327,13 @@ pub fn spans(random: &mut Random, kind: u8, count: usize) -> Vec<u8> {
         put(&mut item, right, pitches[1]);
     }
     item
+}
+
+/// A roof of two spans of either kind with the fields of its spans given. The valley of kind 9 is
+/// 1,000 deep and 7,001 long.
+pub fn two_spans(kind: u8, figures: &[u32; 8]) -> Vec<u8> {
+    let valley = [1_000, 7_001];
+    with_figures(blank_spans(kind, 2), &[&figures[..], &valley].concat())
 }
 
 /// The two pitches at a valley, numbered from 1.
@@ -435,6 +456,25 @@ fn projection(random: &mut Random) -> Vec<u8> {
             let width = near_drift(random, step);
             put(&mut item, PROJECTION_FIELDS[side], width);
         }
+    }
+    item
+}
+
+/// A roof of kind 6 or 7 that ends inside a drift, the lower roof with snow that slides down.
+pub fn cut(random: &mut Random, kind: u8) -> Vec<u8> {
+    let mut item = item(random, kind);
+    if kind == LOWER {
+        let field = LOWER_FIELDS[4];
+        put(&mut item, field, random.between(SLIDES_FROM, 599));
+    }
+    let (step, sides) = match kind {
+        LOWER => (LOWER_FIELDS[2], &LOWER_FIELDS[1..2]),
+        _ => (PROJECTION_FIELDS[0], &PROJECTION_FIELDS[1..]),
+    };
+    let longest = near_drift(random, get(&item, step));
+    for side in sides {
+        let high = random.between(1, longest);
+        put(&mut item, *side, random.between(1, high));
     }
     item
 }

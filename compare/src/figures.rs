@@ -3,6 +3,7 @@
 use crate::arrangement::{codes, loaded_width, Arrangement};
 use crate::forces;
 use crate::ground;
+use crate::loads::{Exact, Tenths, Whole};
 use crate::sheet::{Item, Items, Roof, Site, Situation, Slope};
 
 const SITE: Site = Site {
@@ -22,7 +23,7 @@ fn snow(ground_load: u32) -> Site {
 }
 
 fn segments(site: &Site, roof: &Roof, code: u8) -> Vec<[u32; 4]> {
-    let made = Arrangement::of(site, roof, code).expect("the code exists");
+    let made = Arrangement::<Tenths>::of(site, roof, code).expect("the code exists");
     made.stretches().iter().map(|part| part.segment()).collect()
 }
 
@@ -179,11 +180,12 @@ fn drifts_in_their_valleys() {
         [72_000, 88_000, 0, 0],
     ];
     assert_eq!(segments(&site, &roof, 32), second);
-    let made = Arrangement::of(&site, &roof, 31).unwrap();
+    let made = Arrangement::<Tenths>::of(&site, &roof, 31).unwrap();
+    // The peak is 3,527.2 underneath.
     let stations = [
-        0, 12_000, 12_001, 14_001, 20_000, 20_001, 39_999, 40_000, 88_000,
+        0, 12_000, 12_001, 14_001, 19_999, 20_000, 20_001, 39_999, 40_000, 88_000,
     ];
-    let loads = [0, 0, 1, 883, 3_528, 3_528, 1, 0, 0];
+    let loads = [0, 0, 1, 883, 3_527, 3_528, 3_528, 1, 0, 0];
     assert_eq!(
         stations.map(|station| made.reading(station)),
         loads.map(Some)
@@ -250,7 +252,7 @@ fn codes_by_situation() {
             let site = in_situation(situation);
             let listed: Vec<_> = codes(&site, &roof).collect();
             assert_eq!(listed, list, "{situation:?} {roof:?}");
-            let made = |code: &u8| Arrangement::of(&site, &roof, *code).is_some();
+            let made = |code: &u8| Arrangement::<Tenths>::of(&site, &roof, *code).is_some();
             assert!((0..=255).filter(made).eq(listed), "{situation:?} {roof:?}");
         }
     }
@@ -334,7 +336,7 @@ fn lower_roof() {
     let wall = |roof: &Roof| segments(&SITE, roof, 2)[0][2];
     let long = lower([10_000, 20_000, 3_000, 6_000], 100);
     assert_eq!(wall(&long), 4_000);
-    let made = Arrangement::of(&SITE, &long, 2).unwrap();
+    let made = Arrangement::<Tenths>::of(&SITE, &long, 2).unwrap();
     assert_eq!(made.reading(12_000), Some(2_400));
     assert_eq!(wall(&lower([10_000, 20_000, 3_000, 6_000], 200)), 4_800);
     assert_eq!(wall(&lower([10_000, 20_000, 3_000, 6_000], 150)), 4_000);
@@ -342,6 +344,83 @@ fn lower_roof() {
     assert_eq!(short, [[0, 12_000, 2_167, 1_484]]);
     let low = segments(&SITE, &lower([10_000, 20_000, 300, 6_000], 100), 2);
     assert!(low.iter().all(|part| part[2..] == [800, 800]));
+}
+
+/// The loads of an item in tenths, in whole N/m², and how far the first lies above the exact rule.
+fn three_ways(site: &Site, roof: &Roof, station: u32) -> (u32, u32, u64) {
+    let tenths = Arrangement::<Tenths>::of(site, roof, 2).unwrap();
+    let whole = Arrangement::<Whole>::of(site, roof, 2).unwrap();
+    let exact = Arrangement::<Exact>::of(site, roof, 2).unwrap();
+    let load = tenths.reading(station).unwrap();
+    let distance = exact.distance(station, load).unwrap();
+    (load, whole.reading(station).unwrap(), distance)
+}
+
+/// The parts at the wall are 287.03 and 1,555.02, so 287.1 and 1,555.1 in tenths and 288 and 1,556
+/// in whole N/m². The drift ends at 48,024 with 550.4.
+#[test]
+fn two_lower() {
+    let site = snow(688);
+    let roof = lower([7_136, 20_000, 6_003, 6_261], 200);
+    let figures = [0, 8, 24_000, 48_024].map(|station| three_ways(&site, &roof, station));
+    assert_eq!(
+        figures,
+        [
+            (1_843, 1_844, 952_490),
+            (1_842, 1_844, 167_657),
+            (1_197, 1_198, 453_494),
+            (551, 551, 600_000)
+        ]
+    );
+    // No distance where a load lies below the exact rule, 1,841.83 here.
+    let exact = Arrangement::<Exact>::of(&site, &roof, 2).unwrap();
+    assert_eq!(exact.distance(8, 1_841), None);
+    // The same drift on a roof of 2 mm.
+    let roof = lower([27_134, 2, 6_003, 6_261], 200);
+    assert_eq!(segments(&site, &roof, 2), [[0, 8, 1_843, 1_842]]);
+    let whole = Arrangement::<Whole>::of(&site, &roof, 2).unwrap();
+    assert_eq!(whole.stretches()[0].segment(), [0, 8, 1_844, 1_844]);
+}
+
+/// 2,000/3 and 10,000/3 are 4,000 together, 666.7 and 3,333.4 a tenth more.
+#[test]
+fn parts_are_rounded_before_they_are_added() {
+    let roof = lower([10_000, 10_000, 3_000, 5_000], 200);
+    assert_eq!(three_ways(&SITE, &roof, 0), (4_001, 4_001, 1_000_000));
+}
+
+/// From 800.8 at the ridge to 1,201.2 in the valley. Both are whole tenths.
+#[test]
+fn a_ramp_in_tenths() {
+    let mut bytes = vec![4, 2];
+    for (pitches, widths) in [
+        ([400_u16, 200], [4_000_u32, 5_000]),
+        ([100, 350], [6_000, 7_000]),
+    ] {
+        bytes.extend(pitches.into_iter().flat_map(u16::to_le_bytes));
+        bytes.extend(widths.into_iter().flat_map(u32::to_le_bytes));
+    }
+    let roof = roof(&bytes).unwrap();
+    let loads = |station| three_ways(&snow(1_001), &roof, station);
+    assert_eq!(loads(16_000), (801, 801, 200_000));
+    assert_eq!(loads(16_001), (801, 802, 179_980));
+    assert_eq!(loads(36_000), (1_202, 1_202, 800_000));
+}
+
+/// The loads are 800.8 and 2,000.8, S is 801 and 2,001.
+#[test]
+fn forces_have_whole_loads() {
+    let slope = Slope {
+        pitch: 300,
+        guard: true,
+        width: 100_000,
+    };
+    assert_eq!(forces::guard_force(&snow(1_001), slope), Some(40_050));
+    let site = Site {
+        altitude: 801,
+        ..snow(2_501)
+    };
+    assert_eq!(forces::overhang(&site, slope), Some(2_671));
 }
 
 #[test]

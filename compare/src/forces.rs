@@ -2,7 +2,7 @@
 
 use std::sync::LazyLock;
 
-use crate::loads::{mu1, Fall};
+use crate::loads::{mu1, Fall, Whole};
 use crate::sheet::{Roof, Site, Slope};
 
 /// Above this altitude in m snow may hang over an eave (6.3).
@@ -49,9 +49,9 @@ pub fn guard_force(site: &Site, slope: Slope) -> Option<u32> {
     Some((snow * sine).div_ceil(1_000 * MILLION) as u32)
 }
 
-/// S, the load of code 1.
+/// S, the load of code 1 in whole N/m².
 fn slope_load(site: &Site, slope: Slope) -> u32 {
-    Fall::persistent(site).load(mu1(slope))
+    Fall::persistent(site).load::<Whole>(mu1(slope)).whole()
 }
 
 /// The series x − x³/3! + … to the eleventh power in millionths, to the nearest whole number.

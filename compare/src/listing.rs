@@ -2,6 +2,7 @@
 
 use crate::arrangement::{codes, Arrangement};
 use crate::forces;
+use crate::loads::Tenths;
 use crate::sheet::{Item, Items, Refusal, Roof, Site};
 
 /// A number of bytes that holds the listing of any sheet.
@@ -53,7 +54,7 @@ fn accepted(items: &[Item], out: &mut Vec<u8>) {
 
 fn segment_lines(index: u32, site: &Site, roof: &Roof, out: &mut Vec<u8>) {
     for code in codes(site, roof) {
-        let Some(arrangement) = Arrangement::of(site, roof, code) else {
+        let Some(arrangement) = Arrangement::<Tenths>::of(site, roof, code) else {
             continue;
         };
         for stretch in arrangement.stretches() {

@@ -1,11 +1,15 @@
 //! Shape coefficients as exact fractions, and the loads that they give.
 
+use std::ops::Add;
+
 use crate::sheet::{LowerRoof, Site, Slope, Valley, SLIDING_PITCH};
 
 /// Denominator of the coefficients of Table 5.2 when the pitch is in tenths of a degree.
 const TABLE: u64 = 375;
 /// 0.8 over that denominator.
 const FLAT: u64 = 300;
+/// Parts of a N/m² that an exact load is counted in.
+const MILLION: u64 = 1_000_000;
 /// 15.0 degrees, up to which no snow slides off the upper roof (5.3.6).
 const SLIDE_FROM: u16 = 150;
 
@@ -122,7 +126,8 @@ pub fn mu_drift(valley: Valley, left: Slope, right: Slope, site: &Site) -> Shape
         .at_most(Shape::new(5, 1))
 }
 
-/// All that a load has beside μ, as a fraction.
+/// All that a load has beside μ, as a fraction. The scale is a multiple of ten that divides a
+/// million.
 ///
 /// The largest product is that of μs: 300 × 100,000 × 120 × 100 × 25,000 × 300 is below 2^63.
 #[derive(Clone, Copy, Debug)]
@@ -153,14 +158,124 @@ impl Fall {
     /// The ground load alone, for exceptional drifts (5.3): no Ce, no Ct, no Cesl.
     pub fn drift(site: &Site) -> Self {
         Self {
-            weight: u64::from(site.ground_load),
-            scale: 1,
+            weight: 10 * u64::from(site.ground_load),
+            scale: 10,
         }
     }
 
-    /// The load of a coefficient, rounded up.
-    pub fn load(self, mu: Shape) -> u32 {
-        let load = (mu.numerator * self.weight).div_ceil(mu.denominator * self.scale);
-        load as u32 // below 2,000,000 for every accepted roof
+    /// The load of a coefficient, as it is to be kept.
+    pub fn load<L: Load>(self, mu: Shape) -> L {
+        L::of(mu, self)
+    }
+}
+
+/// The load of a part as it is kept until a load is printed or returned. The default is no load.
+pub trait Load: Copy + Default + Add<Output = Self> {
+    fn of(mu: Shape, fall: Fall) -> Self;
+}
+
+/// A load rounded up, in parts of a N/m²; there are `PARTS` of them, 1 or 10.
+#[derive(Clone, Copy, Debug, Default)]
+pub struct Rounded<const PARTS: u64>(u32);
+
+/// As request A4 has it.
+pub type Tenths = Rounded<10>;
+/// As document 01 alone has it, and S still.
+pub type Whole = Rounded<1>;
+
+impl<const PARTS: u64> Load for Rounded<PARTS> {
+    fn of(mu: Shape, fall: Fall) -> Self {
+        let scale = fall.scale / PARTS;
+        let load = (mu.numerator * fall.weight).div_ceil(mu.denominator * scale);
+        Self(load as u32) // below 2,000,000 N/m² for every accepted roof
+    }
+}
+
+impl<const PARTS: u64> Add for Rounded<PARTS> {
+    type Output = Self;
+
+    fn add(self, other: Self) -> Self {
+        Self(self.0 + other.0)
+    }
+}
+
+impl<const PARTS: u64> Rounded<PARTS> {
+    /// In whole N/m², rounded up.
+    pub fn whole(self) -> u32 {
+        self.0.div_ceil(PARTS as u32)
+    }
+
+    /// Between this load and another in whole N/m², rounded up once. The weights are the distances
+    /// to the far ends.
+    pub fn between(self, other: Self, weights: [u64; 2]) -> u32 {
+        let [ahead, behind] = weights;
+        let sum = u64::from(self.0) * ahead + u64::from(other.0) * behind;
+        sum.div_ceil(PARTS * (ahead + behind)) as u32
+    }
+}
+
+/// A load that is not rounded, a fraction of millionths of a N/m².
+///
+/// The largest numerator is that of μs + μw within a ramp, below 2^100.
+#[derive(Clone, Copy, Debug)]
+pub struct Exact {
+    numerator: u128,
+    denominator: u128,
+}
+
+impl Default for Exact {
+    fn default() -> Self {
+        Self {
+            numerator: 0,
+            denominator: 1,
+        }
+    }
+}
+
+impl Load for Exact {
+    fn of(mu: Shape, fall: Fall) -> Self {
+        let weight = u128::from(fall.weight) * u128::from(MILLION / fall.scale);
+        Self {
+            numerator: u128::from(mu.numerator) * weight,
+            denominator: u128::from(mu.denominator),
+        }
+    }
+}
+
+impl Add for Exact {
+    type Output = Self;
+
+    fn add(self, other: Self) -> Self {
+        Self {
+            numerator: self.numerator * other.denominator + other.numerator * self.denominator,
+            denominator: self.denominator * other.denominator,
+        }
+    }
+}
+
+impl Exact {
+    fn times(self, factor: u64) -> Self {
+        Self {
+            numerator: self.numerator * u128::from(factor),
+            ..self
+        }
+    }
+
+    /// Between this load and another, with weights as for a rounded one.
+    pub fn between(self, other: Self, weights: [u64; 2]) -> Self {
+        let [ahead, behind] = weights;
+        let sum = self.times(ahead) + other.times(behind);
+        Self {
+            denominator: sum.denominator * u128::from(ahead + behind),
+            ..sum
+        }
+    }
+
+    /// How far a load in whole N/m² lies above, in millionths of a N/m² rounded down. None where
+    /// it lies below.
+    pub fn distance(self, load: u32) -> Option<u64> {
+        let load = u128::from(load) * u128::from(MILLION) * self.denominator;
+        let excess = load.checked_sub(self.numerator)?;
+        Some((excess / self.denominator) as u64)
     }
 }

@@ -2,6 +2,7 @@
 //!
 //! Arguments, both optional: a seed and a number of sheets.
 
+mod before;
 mod check;
 mod damage;
 mod draft;
@@ -12,6 +13,7 @@ mod measure;
 mod pairs;
 mod random;
 mod tally;
+mod tenths;
 
 use std::env;
 use std::process::ExitCode;
@@ -36,6 +38,7 @@ fn main() -> ExitCode {
     fuzz.sweep_refused();
     fuzz.sweep_drifts();
     fuzz.sweep_pairs();
+    fuzz.sweep_tenths();
     fuzz.run(sheets);
     let tally = &fuzz.checker.tally;
     tally.print();

@@ -2,6 +2,8 @@
 
 use second::calls::{refusal_parts, NONE, REFUSED};
 
+use crate::before::Returned;
+
 /// The seven calls, in the order of the header.
 pub const CALLS: [&str; 7] = [
     "verdict",
@@ -43,6 +45,8 @@ const VALLEYS: u64 = 120 * 2;
 pub const DRIFT_ROUNDS: u64 = 24;
 /// Pairs of the sheet whose every offset and every length is asked for.
 pub const PAIRS: usize = 3;
+/// A load lies less than this above the exact rule, in millionths of a N/m².
+const DISTANCE: u64 = 1_200_000;
 /// Disagreements that are written out.
 const SHOWN: u64 = 5;
 
@@ -78,6 +82,7 @@ pub struct Tally {
     pub map: MapTally,
     pub drifts: DriftTally,
     pub pairs: PairTally,
+    pub tenths: TenthsTally,
     disagreements: u64,
 }
 
@@ -183,6 +188,68 @@ impl PairTally {
     }
 }
 
+/// Loads that both sides returned, against parts in whole N/m² and against the exact rule.
+#[derive(Default)]
+pub struct TenthsTally {
+    /// The same, 1 lower, 2 lower.
+    drops: [u64; 3],
+    /// Higher, or lower by more.
+    other: u64,
+    /// Those of the drops at cut ends of segments.
+    cut: [u64; 3],
+    /// The largest drop.
+    largest: i64,
+    /// The farthest above the exact rule, in millionths of a N/m².
+    farthest: u64,
+    /// Below the exact rule, or too far above it.
+    off: u64,
+}
+
+impl TenthsTally {
+    /// Counts a load; whether it is as it must be.
+    pub fn count(&mut self, returned: &Returned) -> bool {
+        let drop = i64::from(returned.before) - i64::from(returned.load);
+        self.largest = self.largest.max(drop);
+        let is_known = (0..=2).contains(&drop);
+        if is_known {
+            self.drops[drop as usize] += 1;
+            self.cut[drop as usize] += u64::from(returned.is_cut);
+        } else {
+            self.other += 1;
+        }
+        let distance = returned.distance.unwrap_or(u64::MAX);
+        let is_near = distance < DISTANCE;
+        if is_near {
+            self.farthest = self.farthest.max(distance);
+        } else {
+            self.off += 1;
+        }
+        is_known && is_near
+    }
+
+    fn is_good(&self) -> bool {
+        let met = self.drops.iter().chain(&self.cut).all(|&count| count > 0);
+        met && self.other == 0 && self.off == 0
+    }
+
+    fn print(&self) {
+        let all = self.drops.iter().sum::<u64>() + self.other;
+        let [same, one, two] = self.drops;
+        println!(
+            "TENTHS {all} loads against parts in whole N/m²: same {same}, 1 lower {one}, 2 lower {two}, other {}",
+            self.other
+        );
+        let [same, one, two] = self.cut;
+        println!("  at cut ends of segments same {same}, 1 lower {one}, 2 lower {two}");
+        println!("  largest drop {}", self.largest);
+        println!(
+            "  above the exact rule at most {:.3} N/m², below it or 1.2 above {}",
+            (self.farthest / 1_000) as f64 / 1_000.0,
+            self.off
+        );
+    }
+}
+
 impl Tally {
     pub fn new() -> Self {
         Self {
@@ -200,6 +267,7 @@ impl Tally {
             map: MapTally::default(),
             drifts: DriftTally::default(),
             pairs: PairTally::default(),
+            tenths: TenthsTally::default(),
             disagreements: 0,
         }
     }
@@ -234,6 +302,13 @@ impl Tally {
         }
     }
 
+    /// Counts a load that both sides returned. One that is not as it must be is a disagreement.
+    pub fn returned(&mut self, sheet: &[u8], returned: &Returned, describe: impl Fn() -> String) {
+        if !self.tenths.count(returned) {
+            self.disagree(sheet, || format!("{}: {returned:?}", describe()));
+        }
+    }
+
     /// Counts a disagreement. The first few are printed at once, lest a crash hide them.
     pub fn disagree(&mut self, sheet: &[u8], describe: impl FnOnce() -> String) {
         self.disagreements += 1;
@@ -252,7 +327,7 @@ impl Tally {
     }
 
     /// No disagreement, and every refusal, every slice length, every missing index, every place of
-    /// the map, every situation, every valley and every number of a pair was met.
+    /// the map, every situation, every valley, every number of a pair and every drop was met.
     pub fn is_good(&self) -> bool {
         self.agrees()
             && self.refused[1..].iter().all(|&count| count > 0)
@@ -264,6 +339,7 @@ impl Tally {
             && self.situations.iter().all(|&count| count > 0)
             && self.drifts.is_good()
             && self.pairs.is_good()
+            && self.tenths.is_good()
     }
 
     pub fn print(&self) {
@@ -293,6 +369,7 @@ impl Tally {
         self.map.print();
         self.drifts.print();
         self.pairs.print();
+        self.tenths.print();
         self.print_lengths();
         self.print_missing();
         println!("DISAGREEMENTS {}", self.disagreements);

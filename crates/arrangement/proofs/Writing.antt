@@ -1,8 +1,8 @@
 -- Four numbers at a place of a slice, and one segment more at the end of those written.
-use Prim.Native.Nat.{ℕ, zero, suc, _+_, _*_, _≤_, _<_}
+use Prim.Native.Nat.{ℕ, suc, _+_, _*_, _≤_, _<_}
 use mathlib.Core.Path.{_≡_, refl, _∙_}
 use mathlib.Core.List.{List, [], _∷_, _++_}
-use lib.ListN.{length, set, take, drop, length-append}
+use lib.ListN.{length, set, take, drop}
 use lib.Seq.{sets-eq, take-at, drop-append-add, drop-drop}
 use native.Mathlib.Numerals.{add-one}
 use native.Mathlib.Omega.{arith}
@@ -16,8 +16,9 @@ use Rattle.standard.specs.Arrangements.{factorOf, countIn, stretchIn, count, st
 use Rattle.standard.specs.Bounds.{FiguresIn}
 use Rattle.standard.specs.Codes.{baseCode}
 use Rattle.standard.specs.Stretch.{Stretch, readIn, startOf, segment, segments}
-use Rattle.standard.specs.Units.{largestPosition}
+use Rattle.standard.specs.Units.{parts, largestPosition}
 use Rattle.standard.specs.declared.National.{National}
+use Rattle.standard.proofs.Segments.{segments-length}
 
 pub four :
     (l : List ℕ) (i a b c d : ℕ) → i + 4 ≤ length l
@@ -41,27 +42,22 @@ more done old out four i len e =
     rw (e, e₁, e₃, e₄)
 
 module _ (S : ℕ → Stretch) where
-  pub segments-length : (n : ℕ) → length (segments S n) ≡ 4 * n
-  unfolding segments segment
-  segments-length zero = refl
-  segments-length (suc n) = simp length-append (omega (arith, segments-length n))
-
   pub one-more :
-      (old out four : List ℕ) (i : ℕ) → four ≡ segment S i → out ≡ segments S i ++ drop (4 * i) old
-      → take (4 * i) out ++ four ++ drop (4 * i + 4) out ≡ segments S (i + 1) ++ drop (4 * (i + 1)) old
+      (old out four : List ℕ) (i : ℕ) → four ≡ segment parts S i → out ≡ segments parts S i ++ drop (4 * i) old
+      → take (4 * i) out ++ four ++ drop (4 * i + 4) out ≡ segments parts S (i + 1) ++ drop (4 * (i + 1)) old
   unfolding segments
-  one-more old out four i f e = more (segments S i) old out four i (segments-length i) e ∙ rw (add-one i, f)
+  one-more old out four i f e = more (segments parts S i) old out four i (segments-length parts S i) e ∙ rw (add-one i, f)
 
   -- a segment from its ramp and its start
   module _ (i start : ℕ) (r : Ramp) (es : start ≡ startOf S i) (er : r ≡ rampOf (S i)) where
-    pub segment-is : (a b : ℕ) → a ≡ readRamp r 0 → b ≡ readRamp r (r .extent) → start ∷ (start + r .extent) ∷ a ∷ b ∷ [] ≡ segment S i
+    pub segment-is : (a b : ℕ) → a ≡ readRamp r 0 → b ≡ readRamp r (r .extent) → start ∷ (start + r .extent) ∷ a ∷ b ∷ [] ≡ segment parts S i
     unfolding segment readIn readRamp rampOf
     segment-is a b p q = rw (p, q, es, er)
 
 -- the stretches of an arrangement, by its persistent code and its factor
 module _ (national : National) (site : Site) (shape : Shape) (spans : List ℕ) (code base factor n : ℕ)
     (b : base ≡ baseCode code) (f : factor ≡ factorOf site code) where
-  pub arranged : segments (stretchIn national shape spans factor (site .sk) base) n ≡ segments (stretch national site (roofOf shape spans) code) n
+  pub arranged : segments parts (stretchIn national shape spans factor (site .sk) base) n ≡ segments parts (stretch national site (roofOf shape spans) code) n
   unfolding stretch
   arranged = rw (b, f)
 

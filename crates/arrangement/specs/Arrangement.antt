@@ -7,6 +7,7 @@ use Rattle.figures.specs.declared.roof.Roof.{Roof}
 use Rattle.standard.specs.Answers.{Answer, value, refused}
 use Rattle.standard.specs.Arrangements.{stretch}
 use Rattle.standard.specs.Stretch.{segments}
+use Rattle.standard.specs.Units.{parts}
 use Rattle.standard.specs.declared.National.{National}
 use Rattle.arrangement.specs.declared.Made.{Made}
 use Rattle.arrangement.specs.declared.Made.the-variants.{Segments, Refused}
@@ -24,7 +25,7 @@ madeCount (Refused number) = 0
 
 -- the slice after an answer: the segments at its front and its old contents behind them; after a refusal its old contents
 abbrev pub contents : National → Site → Roof → ℕ → Made → List ℕ → List ℕ
-contents national site roof code (Segments n) old = segments (stretch national site roof code) n ++ drop (4 * n) old
+contents national site roof code (Segments n) old = segments parts (stretch national site roof code) n ++ drop (4 * n) old
 contents national site roof code (Refused number) old = old
 
 -- the four numbers of a segment

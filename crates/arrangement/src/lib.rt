@@ -12,7 +12,7 @@ ghost use Rattle.standard.specs.Arrangements.{countIn, stretchIn, count, stretc
 ghost use Rattle.standard.specs.Bounds.{NationalIn, FiguresIn};
 ghost use Rattle.standard.specs.Coefficients.{recommendedFigures};
 ghost use Rattle.standard.specs.Stretch.{startOf, segment, segments};
-ghost use Rattle.standard.specs.Units.{largestPosition};
+ghost use Rattle.standard.specs.Units.{parts, largestPosition};
 use figures::Roof;
 use figures::SPAN_NUMBERS;
 use figures::Shape;
@@ -49,7 +49,7 @@ fn segment_at(
 ) -> Segment
     requires { ⌜ NationalIn national × ShapeIn shape (now spans) × Ground factor sk × (i < countIn national shape code) ⌝ }
     requires { ⌜ (start ≡ startOf (stretchIn national shape (now spans) factor sk code) i) × (startOf (stretchIn national shape (now spans) factor sk code) (suc i) ≤ largestPosition) ⌝ }
-    ensures { λ r. ⌜ (numbers r ≡ segment (stretchIn national shape (now (spans .entry)) factor sk code) i) × (r .end ≡ startOf (stretchIn national shape (now (spans .entry)) factor sk code) (suc i)) ⌝ }
+    ensures { λ r. ⌜ (numbers r ≡ segment parts (stretchIn national shape (now (spans .entry)) factor sk code) i) × (r .end ≡ startOf (stretchIn national shape (now (spans .entry)) factor sk code) (suc i)) ⌝ }
 {
     let ramp = segments::ramp_in(national, shape, spans, code, factor, sk, i);
     let from = segments::reading_in(ramp, 0);
@@ -84,7 +84,7 @@ pub fn write(
     out: &mut [u32],
 )
     requires { ⌜ FiguresIn national site (roofOf shape (now spans)) × (n ≡ count national (roofOf shape (now spans)) code) × (4 * n ≤ length (now out)) ⌝ }
-    ensures { λ _. ⌜ now (out .exit) ≡ segments (stretch national site (roofOf shape (now (spans .entry))) code) n ++ drop (4 * n) (now (out .entry)) ⌝ }
+    ensures { λ _. ⌜ now (out .exit) ≡ segments parts (stretch national site (roofOf shape (now (spans .entry))) code) n ++ drop (4 * n) (now (out .entry)) ⌝ }
 {
     // The factor is the same for every segment.
     let base = codes::base_code(code);

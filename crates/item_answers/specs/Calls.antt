@@ -13,6 +13,7 @@ use Rattle.standard.specs.Arrangements.{stretch}
 use Rattle.standard.specs.Coefficients.{recommendedFigures}
 use Rattle.standard.specs.Forces as forces
 use Rattle.standard.specs.Stretch.{segments}
+use Rattle.standard.specs.Units.{parts}
 
 -- "then 13, then 11 or 12"; the site has no arrangement, as the header has it: 13
 abbrev pub makeBy : Finding → Site → Roof → ℕ → ℕ → ℕ → ℕ
@@ -33,7 +34,7 @@ loadCode f item code station = loadBy (f .finding) (f .site) (f .roof) item code
 
 -- the slice after a call: the segments at its front and its old contents behind them; after a refusal its old contents
 abbrev pub sliceBy : Answer → Site → Roof → ℕ → List ℕ → List ℕ
-sliceBy (value n) s r code old = segments (stretch recommendedFigures s r code) n ++ drop (4 * n) old
+sliceBy (value n) s r code old = segments parts (stretch recommendedFigures s r code) n ++ drop (4 * n) old
 sliceBy (refused number) s r code old = old
 
 abbrev pub sliceFor : Finding → Site → Roof → ℕ → List ℕ → List ℕ

@@ -3,6 +3,7 @@ use Prim.Native.Nat.{ℕ, _+_, _*_, _≤_}
 use native.Mathlib.Nat.{mul-le-mul, mul-le-mul-left, mul-le-mul-right}
 use native.Mathlib.Omega.{arith}
 use Rattle.loads.specs.Sizes.{Ground, Sized}
+use Rattle.standard.specs.Units.{parts, largestPart}
 
 pub ground : (f s : ℕ) → Ground f s → f * s ≤ 90000000000
 ground f s g = omega (arith, mul-le-mul (g .factor) (g .sk .high))
@@ -10,7 +11,7 @@ ground f s g = omega (arith, mul-le-mul (g .factor) (g .sk .high))
 pub record Products (m d f s : ℕ) : Type 0 where
   pub two : m * f ≤ 108000000000000
   pub three : m * f * s ≤ 2700000000000000000
-  pub most : m * f * s ≤ 7200000 * (d * 1000000)
+  pub most : parts * (m * f * s) ≤ largestPart * (d * 1000000)
 
 pub products : (m d f s : ℕ) → Sized m d f s → Products m d f s
 products m d f s h =
@@ -26,7 +27,7 @@ pub wind-small : (w h s : ℕ) → h ≤ 30000 → s ≤ 25000 → w ≤ 1600 * 
 wind-small w h s p q r = omega (arith, mul-le-mul p q)
 
 -- what a coefficient of at most 1600 × h × sk over 200 × h × sk comes to
-pub wind-most : (w h f s : ℕ) → Ground f s → w ≤ 1600 * h * s → w * f ≤ 7200000 * (200 * h * 1000000)
+pub wind-most : (w h f s : ℕ) → Ground f s → w ≤ 1600 * h * s → parts * (w * f) ≤ largestPart * (200 * h * 1000000)
 wind-most w h f s g p = omega (arith, mul-le-mul-right f p, mul-le-mul-left h (ground f s g))
 
 -- the squares of the rule for a loaded width

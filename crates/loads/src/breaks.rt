@@ -1,17 +1,18 @@
-// Break loads in N/m²: each part of a load rounded up.
+// Break loads in tenths of a N/m²: each part of a load rounded up to a tenth.
 ghost use mathlib.Core.Path.{_≡_};
 ghost use Prim.Native.Nat.{_+_, _*_, _≤_};
 ghost use Rattle.figures.specs.Bounds.{Within, SlopeIn};
 ghost use Rattle.loads.specs.Sizes.{Ground, Sized};
+ghost use Rattle.rounding.specs.Fraction.{over};
 ghost use Rattle.rounding.specs.Load.{breakLoad};
-ghost use Rattle.rounding.specs.Up.{ceilDiv};
+ghost use Rattle.rounding.specs.Up.{roundedUp};
 ghost use Rattle.standard.specs.Abutting.{abuttingLength, wallLoad};
 ghost use Rattle.standard.specs.Bounds.{NationalIn};
 ghost use Rattle.standard.specs.Coefficients.{slopeMu, valleyMu, mu3};
 ghost use Rattle.standard.specs.Pitched.{halved};
 ghost use Rattle.standard.specs.Projection.{projectionLoad};
 ghost use Rattle.standard.specs.Stretch.{loadAlone, eightTenths};
-ghost use Rattle.standard.specs.Units.{parts, largestPart, largestLoad};
+ghost use Rattle.standard.specs.Units.{parts, largestPart, largestBreak};
 use crate::coefficients::arch_numerator;
 use crate::coefficients::projection_numerator;
 use crate::coefficients::slide_numerator;
@@ -21,18 +22,18 @@ use crate::coefficients::wind_numerator;
 use figures::Slope;
 use standard::National;
 
-// The load n / (d × 1,000,000), rounded up: a factor is in millionths.
+// The load n / (d × 1,000,000) in tenths, rounded up: a factor is in millionths, so a tenth is 100,000 of them.
 fn up(n: u64, d: u64) -> u64
-    requires { ⌜ (1 ≤ d) × (d ≤ 20000000) × (n ≤ largestPart * (d * 1000000)) ⌝ }
-    ensures { λ r. ⌜ (r ≡ ceilDiv n (d * 1000000)) × (r ≤ largestPart) ⌝ }
+    requires { ⌜ (1 ≤ d) × (d ≤ 20000000) × (parts * n ≤ largestPart * (d * 1000000)) ⌝ }
+    ensures { λ r. ⌜ (r ≡ roundedUp parts (over n (d * 1000000))) × (r ≤ largestPart) ⌝ }
 {
-    rounding::ceil_div(n, d * 1_000_000)
+    rounding::ceil_div(n, d * 100_000)
 }
 
-// The load at μ = m / d, rounded up.
+// The load at μ = m / d in tenths, rounded up.
 fn load_up(m: u64, d: u64, factor: u64, sk: u64) -> u64
     requires { ⌜ Sized m d factor sk ⌝ }
-    ensures { λ r. ⌜ (r ≡ ceilDiv (m * factor * sk) (d * 1000000)) × (r ≤ largestPart) ⌝ }
+    ensures { λ r. ⌜ (r ≡ roundedUp parts (over (m * factor * sk) (d * 1000000))) × (r ≤ largestPart) ⌝ }
 {
     up(m * factor * sk, d)
 }
@@ -77,7 +78,7 @@ pub fn arch_load(national: National, rise: u64, span: u64, half: bool, factor: u
     load_up(m, 100 * span, factor, sk)
 }
 
-// The load at the wall of a taller roof: the wind's part and the sliding snow's, each rounded up.
+// The load at the wall of a taller roof: the wind's part and the sliding snow's, each rounded up to a tenth.
 pub fn wall_load(
     national: National,
     b1: u64,
@@ -90,7 +91,7 @@ pub fn wall_load(
     sk: u64,
 ) -> u64
     requires { ⌜ NationalIn national × (b1 + b2 ≤ 200000) × Within 1 30000 h × SlopeIn slope × (guard ≤ 1) × (ls ≡ abuttingLength national h) × Within 1000 30000 ls × Ground factor sk ⌝ }
-    ensures { λ r. ⌜ (r ≡ breakLoad parts (wallLoad national factor sk b1 b2 h slope guard)) × (r ≤ largestLoad) ⌝ }
+    ensures { λ r. ⌜ (r ≡ breakLoad parts (wallLoad national factor sk b1 b2 h slope guard)) × (r ≤ largestBreak) ⌝ }
 {
     let wind = up(wind_numerator(national, b1 + b2, h, sk) * factor, 200 * h);
     let slide = load_up(slide_numerator(slope, guard), 375 * ls, factor, sk);

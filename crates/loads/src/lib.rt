@@ -1,4 +1,4 @@
-// The break loads of every kind of roof, each part rounded up, and the lengths of drifts and loaded arches.
+// The break loads of every kind of roof in tenths of a N/m², each part rounded up, and the lengths of drifts and loaded arches.
 // These calls are for the crates above: what they require, accepted figures keep.
 mod breaks;
 mod coefficients;

@@ -13,11 +13,17 @@ use Rattle.figures.specs.declared.roof.Shape.{Shape}
 use Rattle.figures.specs.declared.roof.Shape.the-variants.{Monopitch, Pitched}
 use Rattle.figures.specs.declared.roof.Roof.{Roof}
 use Rattle.rounding.specs.Load.{breakLoad}
+use Rattle.rounding.specs.Up.{ceilDiv}
+use Rattle.rounding.proofs.Ramps.{break-alone}
+use Rattle.rounding.proofs.Rounding.{up-twice}
 use Rattle.standard.specs.Arrangements.{factorOf}
 use Rattle.standard.specs.Coefficients.{slopeMu}
-use Rattle.standard.specs.Stretch.{loadAlone}
+use Rattle.standard.specs.Stretch.{load, loadAlone}
 use Rattle.standard.specs.Forces.{SlopeAt, noSlope, someSlope, slopeAt, slopeLoad, wholeLoad, overhangForce, guardForce}
 use Rattle.standard.specs.Forces.{force, none, refused, overhangAt, overhangAnswer, guardAt, guardAnswer}
+use Rattle.standard.specs.Units.{parts}
+use Rattle.standard.proofs.Loads.{load-positive}
+use Rattle.standard.proofs.Numerators.{slope-mu-positive}
 
 -- products of figures up to a million
 module _ (a b : ℕ) (h : a ≤ 1000000) (k : b ≤ 1000000) where
@@ -51,12 +57,15 @@ module _ (shape : Shape) (n : ℕ) (left right : Slope) (leftGuard rightGuard : 
   unfolding slopeAt
   no-third h k = rw (e, ne-eqb n 1 h, ne-eqb n 2 k)
 
--- S, by the factor of code 1
+-- S, by the factor of code 1: a load of one part in tenths, rounded up to a whole N/m²
 pub whole-is :
-    (site : Site) (slope : Slope) (guard f r : ℕ) → f ≡ factorOf site 1 → r ≡ breakLoad 1 (loadAlone (slopeMu slope guard) f (site .sk))
-    → r ≡ wholeLoad site slope guard
+    (site : Site) (slope : Slope) (guard f t r : ℕ) → f ≡ factorOf site 1 → t ≡ breakLoad parts (loadAlone (slopeMu slope guard) f (site .sk))
+    → r ≡ ceilDiv t parts → r ≡ wholeLoad site slope guard
 unfolding wholeLoad slopeLoad
-whole-is site slope guard f r p q = q ∙ rw p
+whole-is site slope guard f t r p q e =
+    let s = load (slopeMu slope guard) (factorOf site 1) (site .sk) in
+    let u = load-positive (slopeMu slope guard) (factorOf site 1) (site .sk) (slope-mu-positive slope guard) in
+    e ∙ rw (q, p, break-alone parts s, break-alone 1 s) (up-twice parts s (omega arith) u)
 
 -- what the calls answer: the first broken rule, or the force at the slope
 module _ (site : Site) (roof : Roof) (n : ℕ) where

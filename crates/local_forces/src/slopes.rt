@@ -7,6 +7,7 @@ ghost use Rattle.standard.specs.Forces.{slopeAt, wholeLoad};
 use figures::Shape;
 use figures::Site;
 use figures::Slope;
+use standard::PARTS;
 
 // The persistent code of the undrifted load.
 const UNDRIFTED: u8 = 1;
@@ -55,16 +56,17 @@ pub fn slope_of(shape: Shape, number: u8) -> RoofSlope
     }
 }
 
-// S, the slope's code 1 load in N/m².
+// S, the slope's code 1 load in whole N/m².
 pub fn whole_load(site: Site, slope: Slope, guard: u8) -> u64
     requires { ⌜ SiteIn site × (guard ≤ 1) ⌝ }
     ensures { λ r. ⌜ (r ≡ wholeLoad site slope guard) × (r ≤ 24000) ⌝ }
 {
-    loads::slope_load(
+    let load = loads::slope_load(
         slope,
         guard,
         false,
         code_rules::factor(site, UNDRIFTED),
         site.sk as u64,
-    )
+    );
+    rounding::ceil_div(load, PARTS)
 }

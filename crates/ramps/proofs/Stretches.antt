@@ -4,12 +4,13 @@ use mathlib.Core.Path.{_≡_, sym, _∙_}
 use Rattle.rounding.specs.Fraction.{over}
 use Rattle.rounding.specs.Load.{Load, breakLoad}
 use Rattle.rounding.specs.Ramp.{reading}
+use Rattle.rounding.specs.Up.{ceilDiv}
 use Rattle.rounding.proofs.Rounding.{up-nothing}
 use Rattle.rounding.proofs.Ramps.{break-alone, reading-start, reading-end, reading-most}
 use native.Mathlib.Nat.{mul-le-mul}
 use native.Mathlib.Omega.{arith}
 use Rattle.standard.specs.Stretch.{Stretch, even, ramp, noLoad}
-use Rattle.standard.specs.Units.{parts, largestPosition, largestPart, largestLoad}
+use Rattle.standard.specs.Units.{parts, largestPosition, largestPart, largestBreak, largestLoad}
 use Rattle.ramps.specs.Ramps.{rampOf, RampIn, readRamp}
 use Rattle.ramps.specs.declared.Ramp.{Ramp}
 
@@ -30,7 +31,7 @@ no-load = (sym (break-alone parts (over 0 1) ∙ up-nothing parts), omega arith)
 -- a ramp that may be cut, a whole one, and one of one load
 pub cut-ramp :
     (x k f a b : ℕ) (from to : Load) → a ≡ breakLoad parts from → b ≡ breakLoad parts to → 1 ≤ x → k + x ≤ f → f ≤ largestPosition
-    → a ≤ largestLoad → b ≤ largestLoad → Made (made x k f a b) (record { extent = x; skip = k; full = f; from = from; to = to })
+    → a ≤ largestBreak → b ≤ largestBreak → Made (made x k f a b) (record { extent = x; skip = k; full = f; from = from; to = to })
 unfolding rampOf
 cut-ramp x k f a b from to p q some inside full s t = (rw (p, q), record { some = some; inside = inside; full = full; from = s; to = t })
 
@@ -45,11 +46,12 @@ even-ramp x a l r e p some most = whole-ramp x a a l l r e p p some most
 
 -- the two products of a reading, and that a reading is no larger than its break loads may be
 pub record Weighed (r : Ramp) (x : ℕ) : Type 0 where
-  pub from : r .from * (r .full - (r .skip + x)) ≤ 184320000000000
-  pub to : r .to * (r .skip + x) ≤ 184320000000000
-  pub most : reading (r .from) (r .to) (r .full) (r .skip + x) ≤ largestLoad
+  pub from : r .from * (r .full - (r .skip + x)) ≤ 1843200000000000
+  pub to : r .to * (r .skip + x) ≤ 1843200000000000
+  pub most : readRamp r x ≤ largestLoad
 
 pub weighed : (r : Ramp) (x : ℕ) → RampIn r → x ≤ r .extent → Weighed r x
+unfolding readRamp
 weighed r x h p =
     let along : r .skip + x ≤ largestPosition = omega (arith, h .inside, h .full) in
     let left : r .full - (r .skip + x) ≤ largestPosition = omega (arith, h .full) in
@@ -57,18 +59,23 @@ weighed r x h p =
       from = mul-le-mul (h .from) left;
       to = mul-le-mul (h .to) along;
       most =
-          reading-most (r .from) (r .to) (r .full) (omega (arith, h .some, h .inside)) (r .skip + x) largestLoad
+          reading-most parts (r .from) (r .to) (r .full) (omega arith) (omega (arith, h .some, h .inside)) (r .skip + x) largestLoad
           (omega (arith, h .inside)) (h .from) (h .to);
     }
 
--- at an end of the uncut ramp its break load is read
+-- at an end of the uncut ramp its break load is read, rounded up to a whole N/m², and between them the line
 module _ (r : Ramp) (x : ℕ) (h : RampIn r) where
-  pub read-start : r .skip + x ≡ 0 → r .from ≡ readRamp r x
+  pub read-start : (n d : ℕ) → n ≡ r .from → d ≡ parts → r .skip + x ≡ 0 → ceilDiv n d ≡ readRamp r x
   unfolding readRamp
-  read-start e = rw e (sym (reading-start (r .from) (r .to) (r .full) (omega (arith, h .some, h .inside))))
+  read-start n d p q e = rw (p, q, e) (sym (reading-start parts (r .from) (r .to) (r .full) (omega arith) (omega (arith, h .some, h .inside))))
 
-  pub read-end : x ≤ r .extent → r .full - (r .skip + x) ≡ 0 → r .to ≡ readRamp r x
+  pub read-end : (n d : ℕ) → n ≡ r .to → d ≡ parts → x ≤ r .extent → r .full - (r .skip + x) ≡ 0 → ceilDiv n d ≡ readRamp r x
   unfolding readRamp
-  read-end p e =
+  read-end n d p q k e =
       let f : r .skip + x ≡ r .full = omega (arith, h .inside) in
-      rw f (sym (reading-end (r .from) (r .to) (r .full) (omega (arith, h .some, h .inside))))
+      rw (p, q, f) (sym (reading-end parts (r .from) (r .to) (r .full) (omega arith) (omega (arith, h .some, h .inside))))
+
+  pub read-between :
+      (n d : ℕ) → n ≡ r .from * (r .full - (r .skip + x)) + r .to * (r .skip + x) → d ≡ parts * r .full → ceilDiv n d ≡ readRamp r x
+  unfolding readRamp reading
+  read-between n d p q = rw (p, q)

@@ -3,9 +3,10 @@ ghost use mathlib.Core.Path.{_≡_};
 ghost use Prim.Native.Nat.{_≤_};
 ghost use Rattle.ramps.specs.Ramps.{RampIn, readRamp};
 ghost use Rattle.standard.specs.Units.{largestLoad};
+use standard::PARTS;
 
 // A part of an uncut ramp: its length on the roof, how far into the ramp it begins, the ramp's whole length, and the ramp's
-// break loads. Lengths in quarter millimetres, loads in N/m².
+// break loads. Lengths in quarter millimetres, loads in tenths of a N/m².
 pub struct Ramp {
     pub extent: u64,
     pub skip: u64,
@@ -40,7 +41,7 @@ pub fn whole(extent: u64, from: u64, to: u64) -> Ramp
     }
 }
 
-// The reading x into a ramp's part: the line between its break loads, rounded up.
+// The reading x into a ramp's part in N/m²: the line between its break loads, rounded up once, at the end.
 pub fn reading_in(ramp: Ramp, x: u64) -> u64
     requires { ⌜ RampIn ramp × (x ≤ ramp .extent) ⌝ }
     ensures { λ r. ⌜ (r ≡ readRamp ramp x) × (r ≤ largestLoad) ⌝ }
@@ -48,11 +49,11 @@ pub fn reading_in(ramp: Ramp, x: u64) -> u64
     let along = ramp.skip + x;
     // At an end of the uncut ramp its break load is read.
     if along == 0 {
-        return ramp.from;
+        return rounding::ceil_div(ramp.from, PARTS);
     }
     let left = ramp.full - along;
     if left == 0 {
-        return ramp.to;
+        return rounding::ceil_div(ramp.to, PARTS);
     }
-    rounding::ceil_div(ramp.from * left + ramp.to * along, ramp.full)
+    rounding::ceil_div(ramp.from * left + ramp.to * along, PARTS * ramp.full)
 }

@@ -8,9 +8,10 @@ use Rattle.figures.specs.declared.roof.Roof.{Roof}
 use Rattle.ramps.specs.Ramps.{rampOf, readRamp}
 use Rattle.ramps.specs.declared.Ramp.{Ramp}
 use Rattle.standard.specs.Answers.{value, refused, stationAnswer, loadAnswer}
-use Rattle.standard.specs.Arrangements.{count, stretch, endOf, endIn, loadAt}
+use Rattle.standard.specs.Arrangements.{count, stretch, endOf, endIn, loadInParts}
 use Rattle.standard.specs.Coefficients.{recommendedFigures}
 use Rattle.standard.specs.Stretch.{Stretch, readIn, startOf, holds, readingAt, greatest}
+use Rattle.standard.specs.Units.{parts}
 use Rattle.standard.specs.declared.National.{National}
 use Rattle.standard.proofs.Answered.{answers-near, answers-rise}
 use Rattle.standard.proofs.Demand.{Alike, recommended-in}
@@ -34,7 +35,7 @@ module _ (r : Ramp) (start p : ℕ) where
 
 pub one-more :
     (S : ℕ → Stretch) (p i start : ℕ) (r : Ramp) → start ≡ startOf S i → r ≡ rampOf (S i)
-    → (best v b : ℕ) → best ≡ greatest S p i → v ≡ valueOf r start p → b ≡ max best v → b ≡ greatest S p (i + 1)
+    → (best v b : ℕ) → best ≡ greatest parts S p i → v ≡ valueOf r start p → b ≡ max best v → b ≡ greatest parts S p (i + 1)
 unfolding greatest readingAt readIn valueOf readRamp rampOf
 one-more S p i start r es er best v b e f g = g ∙ rw (add-one i, e, f, es, er)
 
@@ -44,9 +45,9 @@ module _ (national : National) (s : Site) (r : Roof) (code p end : ℕ) (e : end
   off-roof lt = rw (← e, lt-leb p end lt)
 
   pub on-roof :
-      (x n : ℕ) → p ≤ end → n ≡ count national r code → x ≡ greatest (stretch national s r code) p n
+      (x n : ℕ) → p ≤ end → n ≡ count national r code → x ≡ greatest parts (stretch national s r code) p n
       → value x ≡ stationAnswer national s r code p
-  unfolding stationAnswer endOf loadAt
+  unfolding stationAnswer endOf loadInParts
   on-roof x n le c q = rw (← e, le-leb p end le, ← c, ← q)
 
 -- what is answered as a load lies near the exact rule

@@ -6,9 +6,9 @@ use Rattle.figures.specs.declared.roof.Roof.{Roof}
 use Rattle.ramps.specs.Ramps.{readRamp}
 use Rattle.ramps.specs.declared.Ramp.{Ramp}
 use Rattle.standard.specs.Answers.{Answer, value, refused}
-use Rattle.standard.specs.Arrangements.{exactAt}
+use Rattle.standard.specs.Arrangements.{exactAt, NearExact}
 use Rattle.standard.specs.Coefficients.{recommendedFigures}
-use Rattle.standard.specs.Stretch.{holds, Near}
+use Rattle.standard.specs.Stretch.{holds}
 use Rattle.reading.specs.declared.Reading.{Reading}
 use Rattle.reading.specs.declared.Reading.the-variants.{Load, Refused}
 
@@ -21,9 +21,9 @@ readingMeans (Refused number) = refused number
 unfoldable pub valueOf : Ramp → ℕ → ℕ → ℕ
 valueOf r start p = cond (holds start (r .extent) p) (readRamp r (p - start)) 0
 
--- whatever is answered as a load lies at or above the exact rule, and less than 3 N/m² above it
+-- whatever is answered as a load lies at or above the exact rule, and less than 1.2 N/m² above it
 abbrev pub distanceOf : Site → Roof → ℕ → ℕ → Reading → Type 0
-distanceOf site roof code p (Load x) = Near x (exactAt recommendedFigures site roof code p)
+distanceOf site roof code p (Load x) = NearExact x (exactAt recommendedFigures site roof code p)
 distanceOf site roof code p (Refused number) = Unit
 
 -- of two loads, the second is no less; a refusal owes nothing

@@ -9,7 +9,7 @@ ghost use Rattle.standard.specs.Arrangements.{count, stretch};
 ghost use Rattle.standard.specs.Bounds.{FiguresIn};
 ghost use Rattle.standard.specs.Coefficients.{recommendedFigures};
 ghost use Rattle.standard.specs.Stretch.{greatest};
-ghost use Rattle.standard.specs.Units.{largestPosition, largestLoad};
+ghost use Rattle.standard.specs.Units.{parts, largestPosition, largestLoad};
 use figures::Roof;
 use figures::SPAN_NUMBERS;
 use figures::Shape;
@@ -51,7 +51,7 @@ fn greatest_reading(
     station: u64,
 ) -> u64
     requires { ⌜ FiguresIn national site (roofOf shape (now spans)) × (n ≡ count national (roofOf shape (now spans)) code) ⌝ }
-    ensures { λ r. ⌜ (r ≡ greatest (stretch national site (roofOf shape (now (spans .entry))) code) station n) × (r ≤ largestLoad) ⌝ }
+    ensures { λ r. ⌜ (r ≡ greatest parts (stretch national site (roofOf shape (now (spans .entry))) code) station n) × (r ≤ largestLoad) ⌝ }
 {
     let mut load: u64 = 0;
     let mut start: u64 = 0;

@@ -8,13 +8,14 @@ use Rattle.force_rows.specs.Rows.{forceRows}
 use Rattle.standard.specs.Arrangements.{exists, count, stretch}
 use Rattle.standard.specs.Codes.{highestCode}
 use Rattle.standard.specs.Stretch.{Stretch, segment}
+use Rattle.standard.specs.Units.{parts}
 use Rattle.standard.specs.declared.National.{National}
 use Rattle.text.specs.Text.{row}
 
 -- "one line a segment: item, code, start, end, load, load": the first k segments
 unfoldable pub segmentRows : (ℕ → Stretch) → ℕ → ℕ → ℕ → List ℕ
 segmentRows S item code zero = []
-segmentRows S item code (suc k) = segmentRows S item code k ++ row (item ∷ code ∷ segment S k)
+segmentRows S item code (suc k) = segmentRows S item code k ++ row (item ∷ code ∷ segment parts S k)
 
 -- the rows of an arrangement, where it exists
 unfoldable pub codeRows : National → Site → Roof → ℕ → ℕ → List ℕ

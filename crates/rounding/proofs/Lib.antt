@@ -1,3 +1,4 @@
+pub mod Distance
 pub mod Rounding
 pub mod Ramps
 pub mod Limited

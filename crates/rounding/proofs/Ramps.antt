@@ -1,13 +1,13 @@
 -- How far a break's load and a ramp's reading lie above the exact ones, how they rise, and where they end.
 use mathlib.Core.Path.{_≡_, refl, ap, subst}
 use Prim.Native.Nat.{ℕ, _+_, _-_, _*_, _≤_, _<_}
-use native.Mathlib.Nat.{le-of-lt, mul-le-mul-right, mul-lt-mul-of-pos-right, mul-pos, sub-add-cancel}
+use native.Mathlib.Nat.{le-of-lt, le-of-mul-le-mul-left, mul-le-mul-left, mul-le-mul-right, mul-lt-mul-of-pos-right, mul-pos, sub-add-cancel}
 use native.Mathlib.Omega.{arith}
-use Rattle.rounding.specs.Fraction.{Fraction, AtMost, Under, Below, Close, over, sum}
+use Rattle.rounding.specs.Fraction.{Fraction, AtMost, UnderParts, Below, Close, Near, over, sum}
 use Rattle.rounding.specs.Load.{Load, Positive, alone, exact, breakLoad}
 use Rattle.rounding.specs.Ramp.{line, reading}
 use Rattle.rounding.specs.Up.{ceilDiv, roundedUp}
-use Rattle.rounding.proofs.Rounding.{reaches, near, least, whole, mono, up-close, up-mono, up-nothing}
+use Rattle.rounding.proofs.Rounding.{reaches, near, least, mono, cross, same-factor, up-close, up-least, up-mono, up-nothing, up-twice}
 
 -- Figures. Each part of a load is rounded by itself: two halves come to two.
 pub two-halves : breakLoad 1 (record { first = over 1 2; second = over 1 2 }) ≡ 2
@@ -20,14 +20,19 @@ unfolding breakLoad exact sum roundedUp ceilDiv
 one-and-two = refl
 
 -- A reading is rounded up: half-way from 0 to 1 it is 1.
-pub half-way : reading 0 1 2 1 ≡ 1
+pub half-way : reading 1 0 1 2 1 ≡ 1
 unfolding reading ceilDiv
 half-way = refl
 
--- With one part to one, the count is the number itself.
-pub close-whole : (k r : ℕ) (f : Fraction) → Close 1 k r f → AtMost f r × Under r f k
-unfolding AtMost Under
-close-whole k r f c = (omega arith, omega arith)
+-- In tenths each part is rounded up to a tenth: two thirds of a N/m² in two parts are 0.8, of which 0.1 is rounding.
+pub two-thirds : breakLoad 10 (record { first = over 1 3; second = over 1 3 }) ≡ 8
+unfolding breakLoad exact sum roundedUp ceilDiv
+two-thirds = refl
+
+-- A reading is rounded up to the whole at the end alone: a quarter of the way from 1.1 to 0 it is 1, and from 2 to 0 it would be 2.
+pub quarter-way : reading 10 11 0 4 1 ≡ 1
+unfolding reading ceilDiv
+quarter-way = refl
 
 -- Errors add.
 sum-close : {g k l r s : ℕ} {e f : Fraction} → Close g k r e → Close g l s f → 0 < e .den → 0 < f .den → Close g (k + l) (r + s) (sum e f)
@@ -58,69 +63,106 @@ unfolding breakLoad
 break-mono g l l' h h' p q =
     omega (arith, up-mono g (l .first) (l' .first) (h .first) (h' .first) p, up-mono g (l .second) (l' .second) (h .second) (h' .second) q)
 
-pub line-positive : (e f : Fraction) (full x : ℕ) → 0 < e .den → 0 < f .den → 0 < full → 0 < line e f full x .den
-unfolding line
-line-positive e f full x he hf h = mul-pos (mul-pos he hf) h
-
--- The line over a length x + y, y along it, rounded up to r.
--- Each end's error is weighed as its load is, so the line's is no larger, and rounding adds less than 1.
+-- The line over a length x + y, y along it, rounded up to r. Each end's error is weighed as its load is, so the line's is no larger:
+-- k parts; and rounding up to a whole number adds less than g parts.
 module _ (g a b n m d e x y r : ℕ) where
-  line-low : g * n ≤ a * d → g * m ≤ b * e → a * x + b * y ≤ r * (x + y) → g * (n * e * x + m * d * y) ≤ r * (d * e * (x + y))
-  line-low p q h = omega (arith, mul-le-mul-right (e * x) p, mul-le-mul-right (d * y) q, mul-le-mul-right (d * e) h)
+  line-low : 0 < g → g * n ≤ a * d → g * m ≤ b * e → a * x + b * y ≤ r * (g * (x + y)) → n * e * x + m * d * y ≤ r * (d * e * (x + y))
+  line-low hg p q h =
+      let s : g * (n * e * x + m * d * y) ≤ g * (r * (d * e * (x + y))) =
+      omega (arith, mul-le-mul-right (e * x) p, mul-le-mul-right (d * y) q, mul-le-mul-right (d * e) h) in
+      le-of-mul-le-mul-left s hg
 
   line-high :
-      (k : ℕ) → 0 < d → 0 < e → a * d < g * n + k * d → b * e < g * m + k * e → r * (x + y) < a * x + b * y + (x + y)
-      → r * (d * e * (x + y)) < g * (n * e * x + m * d * y) + (k + 1) * (d * e * (x + y))
+      (k : ℕ) → 0 < d → 0 < e → a * d < g * n + k * d → b * e < g * m + k * e → r * (g * (x + y)) < a * x + b * y + g * (x + y)
+      → g * r * (d * e * (x + y)) < g * (n * e * x + m * d * y) + (g + k) * (d * e * (x + y))
   line-high k hd he p q h =
       let s : (a * x + b * y) * (d * e) ≤ g * (n * e * x + m * d * y) + k * (d * e * (x + y)) =
       omega (arith, mul-le-mul-right (e * x) (le-of-lt p), mul-le-mul-right (d * y) (le-of-lt q)) in
-      let t : r * (x + y) * (d * e) < (a * x + b * y + (x + y)) * (d * e) = mul-lt-mul-of-pos-right h (mul-pos hd he) in
+      let t : r * (g * (x + y)) * (d * e) < (a * x + b * y + g * (x + y)) * (d * e) = mul-lt-mul-of-pos-right h (mul-pos hd he) in
       omega arith
 
 -- In the exact line's denominator alone, the full length is put for the sum of its two parts.
-reading-close :
-    {g k F T : ℕ} {e f : Fraction} (full x : ℕ) → Close g k F e → Close g k T f → 0 < e .den → 0 < f .den → 0 < full → x ≤ full
-    → Close g (k + 1) (reading F T full x) (line e f full x)
-unfolding reading line
-reading-close {g} {k} {F} {T} {e} {f} full x p q he hf h hx =
+reading-near :
+    {g k F T : ℕ} {e f : Fraction} (full x : ℕ) → 0 < g → Close g k F e → Close g k T f → 0 < e .den → 0 < f .den → 0 < full → x ≤ full
+    → Near g (g + k) (reading g F T full x) (line e f full x)
+unfolding reading line AtMost UnderParts
+reading-near {g} {k} {F} {T} {e} {f} full x hg p q he hf h hx =
     let n = F * (full - x) + T * x in
-    subst (λ (z : ℕ). Close g (k + 1) (reading F T full x) (over (e .num * f .den * (full - x) + f .num * e .den * x) (e .den * f .den * z)))
+    let hL = mul-pos hg h in
+    subst (λ (z : ℕ). Near g (g + k) (reading g F T full x) (over (e .num * f .den * (full - x) + f .num * e .den * x) (e .den * f .den * z)))
     (sub-add-cancel hx)
     (record {
-      low = line-low g F T _ _ _ _ (full - x) x _ (p .low) (q .low) (rw (sub-add-cancel hx) (reaches n full h));
-      high = line-high g F T _ _ _ _ (full - x) x _ k he hf (p .high) (q .high) (rw (sub-add-cancel hx) (near n full h));
+      positive = rw (sub-add-cancel hx) (mul-pos (mul-pos he hf) h);
+      low = line-low g F T _ _ _ _ (full - x) x _ hg (p .low) (q .low) (rw (sub-add-cancel hx) (reaches n (g * full) hL));
+      high = line-high g F T _ _ _ _ (full - x) x _ k he hf (p .high) (q .high) (rw (sub-add-cancel hx) (near n (g * full) hL));
     })
 
-pub ramp-close :
-    (g : ℕ) (from to : Load) (full x : ℕ) → Positive from → Positive to → 0 < full → x ≤ full
-    → Close g 3 (reading (breakLoad g from) (breakLoad g to) full x) (line (exact from) (exact to) full x)
-ramp-close g from to full x p q h hx =
-    reading-close full x (break-close g from p) (break-close g to q) (exact-positive from p) (exact-positive to q) h hx
+pub ramp-near :
+    (g : ℕ) (from to : Load) (full x : ℕ) → 0 < g → Positive from → Positive to → 0 < full → x ≤ full
+    → Near g (g + 2) (reading g (breakLoad g from) (breakLoad g to) full x) (line (exact from) (exact to) full x)
+ramp-near g from to full x hg p q h hx =
+    reading-near full x hg (break-close g from p) (break-close g to q) (exact-positive from p) (exact-positive to q) h hx
 
-reading-mono : {F F' T T' : ℕ} (full x : ℕ) → F ≤ F' → T ≤ T' → 0 < full → reading F T full x ≤ reading F' T' full x
+reading-mono : (g : ℕ) {F F' T T' : ℕ} (full x : ℕ) → 0 < g → F ≤ F' → T ≤ T' → 0 < full → reading g F T full x ≤ reading g F' T' full x
 unfolding reading
-reading-mono full x p q h = mono _ _ full h (omega (arith, mul-le-mul-right (full - x) p, mul-le-mul-right x q))
+reading-mono g full x hg p q h = mono _ _ (g * full) (mul-pos hg h) (omega (arith, mul-le-mul-right (full - x) p, mul-le-mul-right x q))
 
 pub ramp-mono :
-    (g : ℕ) (from to from' to' : Load) (full x : ℕ) → Positive from → Positive to → Positive from' → Positive to'
+    (g : ℕ) (from to from' to' : Load) (full x : ℕ) → 0 < g → Positive from → Positive to → Positive from' → Positive to'
     → Below (from .first) (from' .first) → Below (from .second) (from' .second) → Below (to .first) (to' .first) → Below (to .second) (to' .second)
-    → 0 < full → reading (breakLoad g from) (breakLoad g to) full x ≤ reading (breakLoad g from') (breakLoad g to') full x
-ramp-mono g from to from' to' full x p q p' q' a b c d h =
-    reading-mono full x (break-mono g from from' p p' a b) (break-mono g to to' q q' c d) h
+    → 0 < full → reading g (breakLoad g from) (breakLoad g to) full x ≤ reading g (breakLoad g from') (breakLoad g to') full x
+ramp-mono g from to from' to' full x hg p q p' q' a b c d h =
+    reading-mono g full x hg (break-mono g from from' p p' a b) (break-mono g to to' q q' c d) h
 
--- The two shares of one load, at the two ends of the length, come to the whole of it.
-shares : (m full x : ℕ) → x ≤ full → m * (full - x) + m * x ≡ m * full
-shares m full x h = omega (arith, ap (λ (z : ℕ). m * z) (sub-add-cancel h))
+-- Finer parts: h times as many parts of a load are at most h times its parts, so that no reading rises.
+up-finer : (g h : ℕ) (f : Fraction) → 0 < f .den → roundedUp (g * h) f ≤ h * roundedUp g f
+up-finer g h f p = up-least (g * h) (h * roundedUp g f) f p (omega (arith, mul-le-mul-left h (up-close g f p .low)))
 
-module _ (F T full : ℕ) (h : 0 < full) where
-  pub reading-start : reading F T full 0 ≡ F
+break-finer : (g h : ℕ) (l : Load) → Positive l → breakLoad (g * h) l ≤ h * breakLoad g l
+unfolding breakLoad
+break-finer g h l p = omega (arith, up-finer g h (l .first) (p .first), up-finer g h (l .second) (p .second))
+
+reading-finer :
+    (g h F T F' T' full x : ℕ) → 0 < g → 0 < h → 0 < full → F' ≤ h * F → T' ≤ h * T → reading (g * h) F' T' full x ≤ reading g F T full x
+unfolding reading
+reading-finer g h F T F' T' full x hg hh hf p q =
+    cross _ (g * h * full) _ (g * full) (mul-pos (mul-pos hg hh) hf) (mul-pos hg hf)
+    (omega (arith, mul-le-mul-right ((full - x) * (g * full)) p, mul-le-mul-right (x * (g * full)) q))
+
+pub ramp-finer :
+    (g h : ℕ) (from to : Load) (full x : ℕ) → 0 < g → 0 < h → 0 < full → Positive from → Positive to
+    → reading (g * h) (breakLoad (g * h) from) (breakLoad (g * h) to) full x ≤ reading g (breakLoad g from) (breakLoad g to) full x
+ramp-finer g h from to full x hg hh hf p q =
+    reading-finer g h _ _ _ _ full x hg hh hf (break-finer g h from p) (break-finer g h to q)
+
+-- what is read at the ends of an uncut ramp, along an even one, and at most
+module _ (g F T full : ℕ) (hg : 0 < g) (h : 0 < full) where
+  whole-length : (m n : ℕ) → n ≡ m * full → ceilDiv n (g * full) ≡ ceilDiv m g
+  whole-length m n e =
+      let a : n ≡ full * m = omega arith in
+      let b : g * full ≡ full * g = omega arith in
+      rw (a, b) (same-factor full m g h hg)
+
+  pub reading-start : reading g F T full 0 ≡ ceilDiv F g
   unfolding reading
-  reading-start = whole _ full F h (omega (arith, shares F full 0 (omega arith)))
+  reading-start = let z : full - 0 ≡ full = omega arith in whole-length F _ (rw z (omega arith))
 
-  pub reading-end : reading F T full full ≡ T
+  pub reading-end : reading g F T full full ≡ ceilDiv T g
   unfolding reading
-  reading-end = whole _ full T h (omega (arith, shares F full full (omega arith)))
+  reading-end = let z : full - full ≡ 0 = omega arith in whole-length T _ (rw z (omega arith))
 
-  pub reading-most : (x m : ℕ) → x ≤ full → F ≤ m → T ≤ m → reading F T full x ≤ m
+  pub reading-even : (x : ℕ) → x ≤ full → reading g F F full x ≡ ceilDiv F g
   unfolding reading
-  reading-most x m hx p q = least _ full m h (omega (arith, shares m full x hx, mul-le-mul-right (full - x) p, mul-le-mul-right x q))
+  reading-even x hx = whole-length F _ (omega (arith, ap (λ (z : ℕ). F * z) (sub-add-cancel hx)))
+
+  pub reading-most : (x m : ℕ) → x ≤ full → F ≤ g * m → T ≤ g * m → reading g F T full x ≤ m
+  unfolding reading
+  reading-most x m hx p q =
+      least _ (g * full) m (mul-pos hg h)
+      (omega (arith, mul-le-mul-right (full - x) p, mul-le-mul-right x q, ap (λ (z : ℕ). g * m * z) (sub-add-cancel hx)))
+
+-- A load of one part along an even stretch is the smallest whole number not below it, in whatever parts it is counted.
+pub even-whole :
+    (g : ℕ) (f : Fraction) (full x : ℕ) → 0 < g → 0 < f .den → 0 < full → x ≤ full
+    → reading g (breakLoad g (alone f)) (breakLoad g (alone f)) full x ≡ roundedUp 1 f
+even-whole g f full x hg hd h hx = rw (break-alone g f, reading-even g _ (roundedUp g f) full hg h x hx) (up-twice g f hg hd)

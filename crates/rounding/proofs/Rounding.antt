@@ -1,9 +1,9 @@
 -- What rounding up gives: the least whole number not below the exact value, which keeps the order of what is rounded.
 use mathlib.Core.Path.{_≡_, sym, ap}
 use Prim.Native.Nat.{ℕ, _+_, _-_, _*_, _≤_, _<_}
-use native.Mathlib.Nat.{div-zero, div-mul-le-self, lt-div-mul-add, le-of-mul-le-mul-right, lt-of-mul-lt-mul-right, mul-le-mul-left, mul-le-mul-right}
+use native.Mathlib.Nat.{div-zero, div-mul-le-self, lt-div-mul-add, le-of-mul-le-mul-left, le-of-mul-le-mul-right, lt-of-mul-lt-mul-right, mul-le-mul-left, mul-le-mul-right, mul-pos}
 use native.Mathlib.Omega.{arith}
-use Rattle.rounding.specs.Fraction.{Fraction, over, AtMost, Below, Same, Close}
+use Rattle.rounding.specs.Fraction.{Fraction, over, AtMost, Under, Below, Same, Close}
 use Rattle.rounding.specs.Up.{ceilDiv, roundedUp, Smallest}
 
 -- These two say all that the laws below need of `ceilDiv`: it reaches the quotient, and is less than 1 above it.
@@ -48,6 +48,11 @@ cross n d m e hd he p =
     let r : n * e ≤ ceilDiv m e * d * e = omega (arith, mul-le-mul-right d (reaches m e he)) in
     least n d (ceilDiv m e) hd (le-of-mul-le-mul-right r he)
 
+-- A factor above and below the line changes nothing: a load in tenths is its numerator over a tenth of its denominator.
+pub same-factor : (c n d : ℕ) → 0 < c → 0 < d → ceilDiv (c * n) (c * d) ≡ ceilDiv n d
+same-factor c n d hc hd =
+    omega (arith, cross (c * n) (c * d) n d (mul-pos hc hd) hd (omega arith), cross n d (c * n) (c * d) hd (mul-pos hc hd) (omega arith))
+
 -- The same of a fraction that is counted in parts, g to one.
 pub up-close : (g : ℕ) (f : Fraction) → 0 < f .den → Close g 1 (roundedUp g f) f
 unfolding roundedUp
@@ -60,6 +65,11 @@ up-least g r f h p = least (g * f .num) (f .den) r h p
 pub up-mono : (g : ℕ) (e f : Fraction) → 0 < e .den → 0 < f .den → Below e f → roundedUp g e ≤ roundedUp g f
 unfolding roundedUp Below
 up-mono g e f he hf p = cross (g * e .num) (e .den) (g * f .num) (f .den) he hf (omega (arith, mul-le-mul-left g p))
+
+-- With one part to one, the count is the number itself.
+pub close-whole : (k r : ℕ) (f : Fraction) → Close 1 k r f → AtMost f r × Under r f k
+unfolding AtMost Under
+close-whole k r f c = (omega arith, omega arith)
 
 -- In ones, what is rounded up is the smallest whole number not below the fraction, as `ceilDiv` gives it.
 pub up-smallest : (f : Fraction) → 0 < f .den → Smallest f (roundedUp 1 f)
@@ -74,6 +84,18 @@ up-smallest f h =
 pub up-whole : (n d : ℕ) → ceilDiv n d ≡ roundedUp 1 (over n d)
 unfolding roundedUp
 up-whole n d = ap (λ (z : ℕ). ceilDiv z d) (omega arith)
+
+-- Rounded up to a part, and the parts then to a whole number, is rounded up to a whole number.
+pub up-twice : (g : ℕ) (f : Fraction) → 0 < g → 0 < f .den → ceilDiv (roundedUp g f) g ≡ roundedUp 1 f
+up-twice g f hg hd =
+    let F = roundedUp g f in
+    let k = roundedUp 1 f in
+    let R = ceilDiv F g in
+    let a : F ≤ g * k = up-least g (g * k) f hd (omega (arith, mul-le-mul-left g (up-close 1 f hd .low))) in
+    let b : R ≤ k = least F g k hg (omega arith) in
+    let e : g * f .num ≤ g * (R * f .den) = omega (arith, up-close g f hd .low, mul-le-mul-right (f .den) (reaches F g hg)) in
+    let u : f .num ≤ R * f .den = le-of-mul-le-mul-left e hg in
+    omega (arith, up-least 1 R f hd (omega arith))
 
 -- 0 is rounded up to 0.
 pub up-nothing : (g : ℕ) → roundedUp g (over 0 1) ≡ 0

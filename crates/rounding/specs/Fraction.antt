@@ -19,6 +19,10 @@ AtMost f r = f .num ≤ r * f .den
 unfoldable pub Under : ℕ → Fraction → ℕ → Type 0
 Under r f k = r * f .den < f .num + k * f .den
 
+-- r < f + k/g
+unfoldable pub UnderParts : ℕ → ℕ → Fraction → ℕ → Type 0
+UnderParts g r f k = g * r * f .den < g * f .num + k * f .den
+
 -- e ≤ f
 unfoldable pub Below : Fraction → Fraction → Type 0
 Below e f = e .num * f .den ≤ f .num * e .den
@@ -31,6 +35,12 @@ Same e f = e .num * f .den ≡ f .num * e .den
 pub record Close (g k r : ℕ) (f : Fraction) : Type 0 where
   pub low : g * f .num ≤ r * f .den
   pub high : r * f .den < g * f .num + k * f .den
+
+-- r is a whole number: f ≤ r < f + k/g; f is a true fraction
+pub record Near (g k r : ℕ) (f : Fraction) : Type 0 where
+  pub positive : 0 < f .den
+  pub low : AtMost f r
+  pub high : UnderParts g r f k
 
 -- e + f
 unfoldable pub sum : Fraction → Fraction → Fraction

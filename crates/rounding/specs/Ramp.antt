@@ -7,6 +7,6 @@ use Rattle.rounding.specs.Up.{ceilDiv}
 unfoldable pub line : Fraction → Fraction → ℕ → ℕ → Fraction
 line e f full x = over (e .num * f .den * (full - x) + f .num * e .den * x) (e .den * f .den * full)
 
--- the reading: the line between two break loads, rounded up
-unfoldable pub reading : ℕ → ℕ → ℕ → ℕ → ℕ
-reading from to full x = ceilDiv (from * (full - x) + to * x) full
+-- the reading: the line between two break loads that are counted in parts, g to the N/m², rounded up to a whole N/m² once, at the end
+unfoldable pub reading : ℕ → ℕ → ℕ → ℕ → ℕ → ℕ
+reading g from to full x = ceilDiv (from * (full - x) + to * x) (g * full)

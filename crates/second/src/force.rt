@@ -5,6 +5,7 @@ use figures::Roof;
 use figures::Shape;
 use figures::Site;
 use figures::Slope;
+use second_loads::WHOLE;
 use second_loads::ground_of;
 use second_loads::load_on;
 use second_numbers::least;
@@ -55,10 +56,10 @@ fn slope_index(number: u8) -> usize
     if number == 2 { 1 } else { 0 }
 }
 
-// S: the load of code 1 on the slope's segment.
+// S: the load of code 1 on the slope's segment. By A4 "S stays whole".
 fn slope_load(site: Site, roof: Roof, number: u8) -> u32 {
     let segment = segment_at(roof, 1, site.sk, slope_index(number));
-    load_on(ground_of(site, 1), segment, segment.start)
+    load_on(ground_of(site, 1), segment, segment.start, WHOLE)
 }
 
 // The smaller of 3S and S³/3,000,000, rounded up.

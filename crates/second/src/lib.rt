@@ -12,6 +12,8 @@ pub use roof::segment_at;
 pub use roof::segment_count;
 pub use second_codes::exists;
 pub use second_loads::Ground;
+pub use second_loads::TENTHS;
+pub use second_loads::WHOLE;
 pub use second_loads::ground_of;
 pub use second_loads::load_on;
 pub use second_numbers::Segment;

@@ -12,15 +12,15 @@ fn greater(a: u32, b: u32) -> u32 {
     if a < b { b } else { a }
 }
 
-// The greatest load over the segments that hold the station.
-pub fn load_read(ground: Ground, roof: Roof, code: u8, station: u32) -> u32 {
+// The greatest load over the segments that hold the station, worked in parts of a N/m².
+pub fn load_read(ground: Ground, roof: Roof, code: u8, station: u32, parts: u32) -> u32 {
     let shape = roof.shape;
     let count = segment_count(shape, code);
     let mut load = 0;
     let mut i = 0;
     while i < count {
         let segment = segment_at(roof, code, ground.sk, i);
-        load = greater(load, load_if_held(ground, segment, station));
+        load = greater(load, load_if_held(ground, segment, station, parts));
         i += 1;
     }
     load

@@ -1,5 +1,5 @@
 // The loads of the second calculation: μ × Ce × Ct × sk, times Cesl in the accidental codes, μ × sk in the drifts of
-// Annex B, and rounded up.
+// Annex B. A break load is worked in parts of a N/m², a load at a station is whole.
 use figures::Site;
 use second_numbers::Ratio;
 use second_numbers::Segment;
@@ -15,6 +15,12 @@ use second_numbers::times;
 use second_numbers::whole;
 
 const MILLION: u32 = 1_000_000;
+
+// How many parts a N/m² has. By A4 "sums and ramps work in tenths".
+pub const TENTHS: u32 = 10;
+
+// S is worked in whole N/m², and so was every load before A4.
+pub const WHOLE: u32 = 1;
 
 // The ground load and the factor on μ × sk in millionths.
 pub struct Ground {
@@ -40,39 +46,38 @@ pub fn ground_of(site: Site, code: u8) -> Ground {
     }
 }
 
-// The load at a coefficient, rounded up.
-fn rounded(ground: Ground, ratio: Ratio) -> u32 {
-    least(
-        times(times(whole(ratio.num), ground.factor), ground.sk),
-        times(whole(ratio.den), MILLION),
-    )
+// The load at a coefficient in parts of a N/m², rounded up to a part.
+fn rounded(ground: Ground, ratio: Ratio, parts: u32) -> u32 {
+    let load = times(times(whole(ratio.num), ground.factor), ground.sk);
+    least(times(load, parts), times(whole(ratio.den), MILLION))
 }
 
-// The break load at the beginning of the uncut line: two parts, each rounded up, and added.
-fn first_break(ground: Ground, segment: Segment) -> u32 {
+// The break load at the beginning of the uncut line: the wind's and the slide's, each rounded up, and added.
+fn first_break(ground: Ground, segment: Segment, parts: u32) -> u32 {
     sum(
-        rounded(ground, segment.from),
-        rounded(ground, segment.slide),
+        rounded(ground, segment.from, parts),
+        rounded(ground, segment.slide, parts),
     )
 }
 
-// The load that a segment reads at a station on it, between the break loads of the uncut line, rounded up.
-pub fn load_on(ground: Ground, segment: Segment, station: u32) -> u32 {
+// The load that a segment reads at a station on it, between the break loads of the uncut line: these are in parts of a N/m²,
+// and the load alone is rounded up to a whole N/m².
+pub fn load_on(ground: Ground, segment: Segment, station: u32, parts: u32) -> u32 {
     let before = along(segment, station);
     let after = difference(segment.length, before);
     least(
         plus(
-            times(whole(first_break(ground, segment)), after),
-            times(whole(rounded(ground, segment.to)), before),
+            times(whole(first_break(ground, segment, parts)), after),
+            times(whole(rounded(ground, segment.to, parts)), before),
         ),
-        whole(segment.length),
+        times(whole(segment.length), parts),
     )
 }
 
 // What a segment reads at a station, 0 if it does not hold it.
-pub fn load_if_held(ground: Ground, segment: Segment, station: u32) -> u32 {
+pub fn load_if_held(ground: Ground, segment: Segment, station: u32, parts: u32) -> u32 {
     if holds(segment, station) {
-        load_on(ground, segment, station)
+        load_on(ground, segment, station, parts)
     } else {
         0
     }

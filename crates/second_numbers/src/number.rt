@@ -4,8 +4,8 @@ ghost use Prim.Native.Nat.{_≤_};
 
 const PART: u64 = 4_294_967_296;
 
-// No load of an accepted roof comes near.
-const MOST: u32 = 4_194_304;
+// No load of an accepted roof comes near: none has more than 144,000,000 tenths of a N/m², whatever the national figures.
+const MOST: u32 = 268_435_456;
 
 fn wide(x: u32) -> u64
     ensures { λ r. ⌜ r ≤ 4294967295 ⌝ }

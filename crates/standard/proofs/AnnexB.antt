@@ -12,7 +12,7 @@ use Rattle.rounding.specs.Limit.{smaller}
 use Rattle.rounding.specs.Load.{breakLoad}
 use Rattle.rounding.specs.Ramp.{reading}
 use Rattle.rounding.specs.Up.{ceilDiv, roundedUp}
-use Rattle.standard.specs.Arrangements.{countIn, stretchIn, count, stretch, arrangement, loadAt, factorOf}
+use Rattle.standard.specs.Arrangements.{countIn, stretchIn, count, stretch, arrangementInParts, arrangement, loadInParts, loadAt, factorOf}
 use Rattle.standard.specs.Codes.{existsIn}
 use Rattle.standard.specs.Coefficients.{recommendedFigures}
 use Rattle.standard.specs.Drift.{peak, driftRow}
@@ -83,7 +83,7 @@ drift sk r code = arrangement recommendedFigures (site sk) r code
 abbrev read : ℕ → ℕ
 read p = loadAt recommendedFigures (site 1000) (roof 1500 20000 30000 10001) 32 p
 
--- limited by 2h; by b3, at 2000.2 N/m²; by 5 × sk; readings at the second valley's breaks and between them
+-- limited by 2h; by b3, at 2000.2 N/m²; by 5 × sk; readings at the second valley's breaks and between them, one at 1022.7 N/m²
 abbrev driftsComputed : List (List ℕ)
 driftsComputed =
     drift 1000 (roof 1500 20000 30000 10001) 31
@@ -97,11 +97,11 @@ driftsStated =
     (0 ∷ 16000 ∷ 0 ∷ 0 ∷ 16000 ∷ 36000 ∷ 0 ∷ 3000 ∷ 36000 ∷ 60004 ∷ 3000 ∷ 0 ∷ 60004 ∷ 132012 ∷ 0 ∷ 0 ∷ [])
     ∷ (0 ∷ 60004 ∷ 0 ∷ 0 ∷ 60004 ∷ 88004 ∷ 0 ∷ 2001 ∷ 88004 ∷ 100004 ∷ 2001 ∷ 0 ∷ 100004 ∷ 132012 ∷ 0 ∷ 0 ∷ [])
     ∷ (0 ∷ 60004 ∷ 0 ∷ 0 ∷ 60004 ∷ 88004 ∷ 0 ∷ 2000 ∷ 88004 ∷ 100004 ∷ 2000 ∷ 0 ∷ 100004 ∷ 132012 ∷ 0 ∷ 0 ∷ [])
-    ∷ (0 ∷ 1 ∷ 1024 ∷ 2001 ∷ 1 ∷ 0 ∷ [])
+    ∷ (0 ∷ 1 ∷ 1023 ∷ 2001 ∷ 1 ∷ 0 ∷ [])
     ∷ []
 
 pub which-drifts : driftsComputed ≡ driftsStated
 unfolding
-    arrangement loadAt count stretch countIn stretchIn factorOf spansCount spansStretch valleyDrift valleyPeak driftRow peak widths slopeOf valleyOf
+    arrangementInParts loadInParts count stretch countIn stretchIn factorOf spansCount spansStretch valleyDrift valleyPeak driftRow peak widths slopeOf valleyOf
     segments segment startOf readIn greatest readingAt holds reading breakLoad roundedUp ceilDiv smaller
 which-drifts = refl

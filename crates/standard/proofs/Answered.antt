@@ -12,9 +12,8 @@ use Rattle.figures.specs.declared.site.Site.{Site}
 use Rattle.figures.specs.declared.roof.Roof.{Roof}
 use Rattle.figures.proofs.Laws.{kept, none-broken}
 use Rattle.standard.specs.Answers.{Answer, value, refused, codeRefusal, afterRules, stationAnswer, loadAnswer}
-use Rattle.standard.specs.Arrangements.{exists, endOf, loadAt, exactAt}
+use Rattle.standard.specs.Arrangements.{exists, endOf, loadAt, exactAt, NearExact}
 use Rattle.standard.specs.Bounds.{NationalIn}
-use Rattle.standard.specs.Stretch.{Near}
 use Rattle.standard.specs.declared.National.{National}
 use Rattle.standard.proofs.Demand.{Alike, distance, rising}
 
@@ -68,8 +67,8 @@ module _ (national : National) (site : Site) (roof : Roof) (code p x : ℕ) wher
       let b = value-of (leb p (endOf roof)) (value (loadAt national site roof code p)) 12 x (a .1) in
       record { rules = accepted site roof code (a .0); station = leb-true p (endOf roof) (b .0); load = cc (b .1) }
 
-  -- demand 3, of what the call answers: at least the exact rule and less than 3 N/m² above it
-  pub answers-near : NationalIn national → loadAnswer national site roof code p ≡ value x → Near x (exactAt national site roof code p)
+  -- demand 3, of what the call answers: at least the exact rule and less than 1.2 N/m² above it
+  pub answers-near : NationalIn national → loadAnswer national site roof code p ≡ value x → NearExact x (exactAt national site roof code p)
   answers-near hn e =
       let a = answered e in
       rw (a .load) at (distance national site roof code hn (a .rules .site) (a .rules .roof) p)

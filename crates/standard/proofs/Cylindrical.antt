@@ -10,18 +10,18 @@ use native.Mathlib.Nat.{mul-le-mul, mul-le-mul-left, mul-pos, le-trans, add-sub-
 use native.Mathlib.Omega.{arith}
 use Rattle.figures.specs.Ranges.{within}
 use Rattle.figures.specs.Bounds.{CylindricalIn}
-use Rattle.rounding.specs.Fraction.{over}
+use Rattle.rounding.specs.Fraction.{Fraction, over}
 use Rattle.rounding.specs.Up.{roundedUp}
-use Rattle.rounding.specs.Load.{Load, Positive, breakLoad}
+use Rattle.rounding.specs.Load.{Load, Positive, alone}
 use Rattle.rounding.proofs.Ramps.{break-alone}
-use Rattle.rounding.proofs.Rounding.{below-least, up-nothing}
+use Rattle.rounding.proofs.Rounding.{below-least, up-nothing, up-twice}
 use Rattle.standard.specs.Coefficients.{mu3}
 use Rattle.standard.specs.Stretch.{even, load, startOf, eightTenths, noLoad}
 use Rattle.standard.specs.Cylindrical.{firstFrom, wideEnough, loadedWidth, archEven, archDrift, peakLoad, halfLoad, cylindrical, cylindricalCount}
 use Rattle.standard.specs.Units.{parts}
 use Rattle.standard.specs.declared.National.{National}
 use Rattle.standard.proofs.Numerators.{mu3-positive}
-use Rattle.standard.proofs.Runs.{Readable, Level, Upward, Rises, WellFormed, formed, outside}
+use Rattle.standard.proofs.Runs.{Readable, Level, Upward, Rises, WellFormed, returned, formed, outside}
 use Rattle.standard.proofs.Runs.{even-readable, even-level, even-rises, ramp-readable, ramp-rises, ramp-beside}
 use Rattle.standard.proofs.Loads.{alone-positive, eight-tenths-positive, no-load-positive, steady-up, no-load-up}
 
@@ -134,12 +134,21 @@ module _ (rise span : ℕ) where
       by-steepness (λ w. 0 < w) (omega arith)
       (pos-of-ne-zero (λ z. nothing-not-wide h (rw z at (found .taken (omega arith)))))
 
-no-load-break : breakLoad parts noLoad ≡ 0
-no-load-break = break-alone parts (over 0 1) ∙ up-nothing parts
+-- a load of one part is returned rounded up
+alone-returned : (f : Fraction) → 0 < f .den → returned (alone f) ≡ roundedUp 1 f
+alone-returned f h = rw (break-alone parts f) (up-twice parts f (omega arith) h)
 
-eight-tenths-break : (factor sk : ℕ) → 0 < factor → 0 < sk → 0 < breakLoad parts (eightTenths factor sk)
-unfolding breakLoad roundedUp load
-eight-tenths-break factor sk hf hs = omega (arith, below-least (parts * (8 * factor * sk)) (10 * 1000000) 0 (omega arith) (omega (arith, mul-pos hf hs)))
+no-load-returned : returned noLoad ≡ 0
+no-load-returned = alone-returned (over 0 1) (omega arith) ∙ up-nothing 1
+
+eight-tenths-returned : (factor sk : ℕ) → 0 < factor → 0 < sk → 0 < returned (eightTenths factor sk)
+unfolding roundedUp load
+eight-tenths-returned factor sk hf hs =
+    omega (
+      arith,
+      alone-returned (load (over 8 10) factor sk) (omega arith),
+      below-least (1 * (8 * factor * sk)) (10 * 1000000) 0 (omega arith) (omega (arith, mul-pos hf hs)),
+    )
 
 module _ (span ls : ℕ) where
   module _ (some : 0 < ls) where
@@ -196,11 +205,11 @@ module _ (span ls : ℕ) where
 
   arch-even-apart :
       (factor sk : ℕ) → 0 < factor → 0 < sk → (bare : Bool) (i : ℕ) → suc i < cond bare 3 1
-      → breakLoad parts (archEven factor sk span ls (cond bare i (suc i)) .from)
-      ≡ breakLoad parts (archEven factor sk span ls (cond bare (suc i) (suc (suc i))) .from) → ⊥
+      → returned (archEven factor sk span ls (cond bare i (suc i)) .from)
+      ≡ returned (archEven factor sk span ls (cond bare (suc i) (suc (suc i))) .from) → ⊥
   unfolding archEven
-  arch-even-apart factor sk hf hs true zero c e = omega (arith, no-load-break, eight-tenths-break factor sk hf hs)
-  arch-even-apart factor sk hf hs true (suc zero) c e = omega (arith, no-load-break, eight-tenths-break factor sk hf hs)
+  arch-even-apart factor sk hf hs true zero c e = omega (arith, no-load-returned, eight-tenths-returned factor sk hf hs)
+  arch-even-apart factor sk hf hs true (suc zero) c e = omega (arith, no-load-returned, eight-tenths-returned factor sk hf hs)
   arch-even-apart factor sk hf hs true (suc (suc i)) c e = omega arith
   arch-even-apart factor sk hf hs false i c e = omega arith
 
@@ -273,8 +282,8 @@ module _ (national : National) (factor rise span : ℕ) where
       (undrifted : Bool) (sk i : ℕ) → 0 < factor → 0 < sk → suc i < cylindricalCount rise span undrifted
       → (not undrifted && within 1 4 (cond (ltb (loadedWidth rise span) span) i (suc i))) ≡ false
       → (not undrifted && within 1 4 (cond (ltb (loadedWidth rise span) span) (suc i) (suc (suc i)))) ≡ false
-      → breakLoad parts (cylindrical national factor sk rise span undrifted i .from)
-      ≡ breakLoad parts (cylindrical national factor sk rise span undrifted (suc i) .from) → ⊥
+      → returned (cylindrical national factor sk rise span undrifted i .from)
+      ≡ returned (cylindrical national factor sk rise span undrifted (suc i) .from) → ⊥
   unfolding cylindrical cylindricalCount
   cylindrical-apart true sk i hf hs c e e' d =
       arch-even-apart span (loadedWidth rise span) factor sk hf hs (ltb (loadedWidth rise span) span) i c d

@@ -1,7 +1,7 @@
 -- What is owed on the loads of accepted figures: segments well formed, a load at every station, its distance from the exact
 -- rule, and its rise with sk.
 use Prim.Native.Nat.{ℕ, suc, _*_, _≤_, _<_}
-use mathlib.Core.Path.{_≡_, ap, subst}
+use mathlib.Core.Path.{_≡_, sym, ap, subst, _∙_}
 use mathlib.Core.Bool.{Bool, true, false, cond}
 use mathlib.Core.List.{List}
 use borrow.Author.Tests.{not-false}
@@ -17,17 +17,17 @@ use Rattle.figures.specs.declared.roof.Shape.the-variants.{Monopitch, Pitched, 
 use Rattle.figures.specs.declared.roof.Roof.{Roof}
 use Rattle.figures.proofs.Accepted.{site-in, shape-in}
 use Rattle.figures.proofs.Laws.{within-in}
-use Rattle.rounding.specs.Load.{breakLoad}
 use Rattle.standard.specs.Bounds.{NationalIn}
 use Rattle.standard.specs.Codes.{accidental, baseCode, namesValley, severalSlopes}
 use Rattle.standard.specs.Coefficients.{recommendedFigures}
-use Rattle.standard.specs.Stretch.{startOf, greatest, Near}
-use Rattle.standard.specs.Arrangements.{factorOf, countIn, stretchIn, rampedIn, endIn, exists, count, stretch, endOf, loadAt, exactAt}
+use Rattle.standard.specs.Stretch.{startOf, readIn, greatest}
+use Rattle.standard.specs.Arrangements.{factorOf, countIn, stretchIn, rampedIn, endIn, exists, count, stretch, endOf}
+use Rattle.standard.specs.Arrangements.{loadInParts, loadAt, exactAt, NearExact}
 use Rattle.standard.specs.Units.{parts, largestPosition}
 use Rattle.standard.specs.ValleyDrift.{spansCount}
 use Rattle.standard.specs.declared.National.{National}
-use Rattle.standard.proofs.Runs.{Held, ReadHeld, ExactHeld, Rises, Level, WellFormed}
-use Rattle.standard.proofs.Runs.{near-greatest, covered, one-reads, one-exact, starts-within, rise-greatest}
+use Rattle.standard.proofs.Runs.{Held, ReadHeld, ExactHeld, Rises, Level, WellFormed, returned}
+use Rattle.standard.proofs.Runs.{near-greatest, covered, one-reads, one-exact, starts-within, rise-greatest, start-load}
 use Rattle.standard.proofs.Codes.{named-base}
 use Rattle.standard.proofs.Monopitch.{monopitch-formed, monopitch-rises, monopitch-level}
 use Rattle.standard.proofs.Pitched.{pitched-formed, pitched-rises, pitched-level}
@@ -109,8 +109,7 @@ module _ (national : National) (spans : List ℕ) (factor sk code i : ℕ) (hf :
   apart-in :
       (shape : Shape) → severalSlopes (kindOf shape) (spanCount shape) code ≡ false → suc i < countIn national shape code
       → rampedIn national shape code i ≡ false → rampedIn national shape code (suc i) ≡ false
-      → breakLoad parts (stretchIn national shape spans factor sk code i .from)
-      ≡ breakLoad parts (stretchIn national shape spans factor sk code (suc i) .from) → ⊥
+      → returned (stretchIn national shape spans factor sk code i .from) ≡ returned (stretchIn national shape spans factor sk code (suc i) .from) → ⊥
   unfolding stretchIn countIn rampedIn
   apart-in (Monopitch slope guard) k c e e' d = omega arith
   apart-in (Pitched left right leftGuard rightGuard) k c e e' d = let z : _≡_ {A = ℕ} 0 1 = cc in omega arith
@@ -142,10 +141,10 @@ module _ (national : National) (site : Site) (roof : Roof) (code : ℕ)
       let w = well-formed in
       covered (stretch national site roof code) p (count national roof code) (w .some) (rw (w .last) h)
 
-  pub one-of-them : (p : ℕ) → p ≤ endOf roof → ReadHeld (stretch national site roof code) p (count national roof code)
+  pub one-of-them : (p : ℕ) → p ≤ endOf roof → ReadHeld (stretch national site roof code) p parts (count national roof code)
   one-of-them p h =
       let w = well-formed in
-      one-reads (stretch national site roof code) p (count national roof code) (w .some) (rw (w .last) h)
+      one-reads (stretch national site roof code) p parts (count national roof code) (w .some) (rw (w .last) h)
 
   pub one-exact-of-them : (p : ℕ) → p ≤ endOf roof → ExactHeld (stretch national site roof code) p (count national roof code)
   one-exact-of-them p h =
@@ -160,9 +159,10 @@ module _ (national : National) (site : Site) (roof : Roof) (code : ℕ)
   unfolding endOf
   end-in-range = end-most (roof .shape) (roof .spans) (shape-in (roof .shape) (roof .spans) hr)
 
-  pub distance : (p : ℕ) → Near (loadAt national site roof code p) (exactAt national site roof code p)
-  unfolding loadAt exactAt
-  distance p = near-greatest (stretch national site roof code) p (count national roof code) (well-formed .each)
+  -- "A reading is then less than 1.2 N/m² above the exact rule"
+  pub distance : (p : ℕ) → NearExact (loadAt national site roof code p) (exactAt national site roof code p)
+  unfolding loadInParts exactAt
+  distance p = near-greatest (stretch national site roof code) p 10 (count national roof code) (omega arith) (well-formed .each)
 
 -- two sites that differ in sk alone
 pub record Alike (s t : Site) : Type 0 where
@@ -184,7 +184,7 @@ same-factor s t code a = rw (a .ce, a .ct, a .cesl)
 pub rising :
     (national : National) (s t : Site) (roof : Roof) (code p : ℕ) → NationalIn national → siteRefusal s ≡ 0 → roofRefusal roof ≡ 0
     → Alike s t → s .sk ≤ t .sk → loadAt national s roof code p ≤ loadAt national t roof code p
-unfolding loadAt stretch count
+unfolding loadInParts stretch count
 rising national s t roof code p hn hs hr a h =
     let f = shape-in (roof .shape) (roof .spans) hr in
     let k = factorOf s code in
@@ -192,10 +192,10 @@ rising national s t roof code p hn hs hr a h =
     let hl : 0 < national .short = omega (arith, hn .short .low) in
     let n = countIn national (roof .shape) (baseCode code) in
     subst
-    (λ (z : ℕ). greatest (stretchIn national (roof .shape) (roof .spans) k (s .sk) (baseCode code)) p n
-    ≤ greatest (stretchIn national (roof .shape) (roof .spans) z (t .sk) (baseCode code)) p n)
+    (λ (z : ℕ). greatest parts (stretchIn national (roof .shape) (roof .spans) k (s .sk) (baseCode code)) p n
+    ≤ greatest parts (stretchIn national (roof .shape) (roof .spans) z (t .sk) (baseCode code)) p n)
     (same-factor s t code a)
-    (rise-greatest _ _ p n
+    (rise-greatest parts (omega arith) _ _ p n
     (formed-in national (roof .spans) k (baseCode code) (roof .shape) (s .sk) hk hl f .each)
     (formed-in national (roof .spans) k (baseCode code) (roof .shape) (t .sk) (omega arith) hl f .each)
     (λ i b. rises-in national (roof .spans) k (baseCode code) (roof .shape) (s .sk) (t .sk) i hk h f))
@@ -222,21 +222,30 @@ drift-alone national s t roof code i n e =
     rw (← e, b) (drift-in national (roof .spans) (s .sk) code i (roof .shape) (factorOf s code) (factorOf t code) n)
 
 -- every stretch that is not said to be a ramp is of one load, and neighbours of one load each differ in it
-module _ (national : National) (site : Site) (roof : Roof) (code i : ℕ) where
-  pub even-stretch : rampedIn national (roof .shape) (baseCode code) i ≡ false → Level (stretch national site roof code i)
+module _ (national : National) (site : Site) (roof : Roof) (code : ℕ) where
+  pub even-stretch : (i : ℕ) → rampedIn national (roof .shape) (baseCode code) i ≡ false → Level (stretch national site roof code i)
   unfolding stretch
-  even-stretch e = level-in national (roof .spans) (factorOf site code) (baseCode code) (roof .shape) (site .sk) i e
+  even-stretch i e = level-in national (roof .spans) (factorOf site code) (baseCode code) (roof .shape) (site .sk) i e
 
-  module _ (hs : siteRefusal site ≡ 0) (k : severalSlopes (kindOf (roof .shape)) (spanCount (roof .shape)) (baseCode code) ≡ false)
+  module _ (i : ℕ) (hs : siteRefusal site ≡ 0) (k : severalSlopes (kindOf (roof .shape)) (spanCount (roof .shape)) (baseCode code) ≡ false)
       (c : suc i < count national roof code)
       (e : rampedIn national (roof .shape) (baseCode code) i ≡ false) (e' : rampedIn national (roof .shape) (baseCode code) (suc i) ≡ false) where
-    pub evens-rounded-apart :
-        breakLoad parts (stretch national site roof code i .from) ≡ breakLoad parts (stretch national site roof code (suc i) .from) → ⊥
+    evens-returned : returned (stretch national site roof code i .from) ≡ returned (stretch national site roof code (suc i) .from) → ⊥
     unfolding stretch count
-    evens-rounded-apart d =
+    evens-returned d =
         let f = site-in site hs in
         apart-in national (roof .spans) (factorOf site code) (site .sk) (baseCode code) i (factor-positive site code f) (omega (arith, f .sk .low))
         (roof .shape) k c e e' d
 
     pub evens-apart : stretch national site roof code i .from ≡ stretch national site roof code (suc i) .from → ⊥
-    evens-apart d = evens-rounded-apart (ap (breakLoad parts) d)
+    evens-apart d = evens-returned (ap returned d)
+
+    -- in the loads that are returned too, which is all that a segment shows
+    pub evens-returned-apart :
+        NationalIn national → roofRefusal roof ≡ 0
+        → readIn parts (stretch national site roof code i) 0 ≡ readIn parts (stretch national site roof code (suc i)) 0 → ⊥
+    evens-returned-apart hn hr d =
+        let w = well-formed national site roof code hn hs hr in
+        let a = start-load parts (omega arith) _ (w .each i (omega arith)) (even-stretch i e .skip) in
+        let b = start-load parts (omega arith) _ (w .each (suc i) c) (even-stretch (suc i) e' .skip) in
+        evens-returned (sym a ∙ (d ∙ b))

@@ -10,7 +10,7 @@ use Rattle.rounding.specs.Limit.{smaller}
 use Rattle.rounding.specs.Load.{Positive, alone}
 use Rattle.rounding.specs.Up.{ceilDiv, roundedUp}
 use Rattle.rounding.proofs.Limited.{below-refl, smaller-positive, smaller-mono, smaller-over}
-use Rattle.rounding.proofs.Rounding.{least, up-same, up-whole}
+use Rattle.rounding.proofs.Rounding.{least, up-same}
 use Rattle.standard.specs.Drift.{Lengths, together, peak, driftRow}
 use Rattle.standard.specs.Numerators.{peakNum}
 use Rattle.standard.specs.Stretch.{startOf}
@@ -76,10 +76,14 @@ module _ (h b3 ls : ℕ) (hl : 0 < ls) where
       times-ls : (n : ℕ) → Same (over n 1) (over (n * ls) ls)
       times-ls n = omega arith
 
-  -- So its load is one division, and at most 5 × sk.
-  pub peak-rounded : (sk : ℕ) → ceilDiv (peakNum h b3 ls sk) ls ≡ roundedUp 1 (peak h b3 ls sk)
-  peak-rounded sk = up-whole _ ls ∙ sym (up-same 1 (peak h b3 ls sk) (over _ ls) (peak-positive sk) hl (peak-is sk))
+  -- So its load in parts is one division, and at most 5 × sk.
+  module _ (g sk n r : ℕ) (p : n ≡ g * peakNum h b3 ls sk) (e : r ≡ ceilDiv n ls) where
+    pub peak-rounded : r ≡ roundedUp g (peak h b3 ls sk)
+    unfolding roundedUp
+    peak-rounded = e ∙ rw p (sym (up-same g (peak h b3 ls sk) (over (peakNum h b3 ls sk) ls) (peak-positive sk) hl (peak-is sk)))
 
-  pub peak-most : (sk : ℕ) → ceilDiv (peakNum h b3 ls sk) ls ≤ 5 * sk
-  unfolding peakNum
-  peak-most sk = least _ ls (5 * sk) hl (omega arith)
+    pub peak-most : r ≤ g * (5 * sk)
+    unfolding peakNum
+    peak-most =
+        let m : peakNum h b3 ls sk ≤ 5 * sk * ls = omega arith in
+        rw e (least n ls (g * (5 * sk)) hl (omega (arith, mul-le-mul-left g m)))

@@ -1,6 +1,6 @@
 -- What is owed on the local forces: their distance from the rules over the unrounded S and the sine's reference.
 use Prim.Native.Nat.{ℕ, _+_, _-_, _*_, _≤_, _<_, min}
-use mathlib.Core.Path.{_≡_, refl, sym, subst}
+use mathlib.Core.Path.{_≡_, refl, sym, subst, _∙_}
 use mathlib.Core.Bool.{Bool, true, false, cond}
 use mathlib.Core.List.{List}
 use borrow.Author.Tests.{eqb-true}
@@ -23,20 +23,22 @@ use Rattle.figures.proofs.Laws.{none-broken}
 use Rattle.rounding.specs.Fraction.{Fraction, over, sum, AtMost, Under, Below, Same, Close}
 use Rattle.rounding.specs.Load.{alone, exact, breakLoad}
 use Rattle.rounding.specs.Up.{ceilDiv, roundedUp}
-use Rattle.rounding.proofs.Rounding.{reaches, near, least, whole, up-close, up-least, up-whole}
-use Rattle.rounding.proofs.Ramps.{close-whole, break-alone}
+use Rattle.rounding.proofs.Rounding.{reaches, near, least, whole, close-whole, up-close, up-least, up-whole}
+use Rattle.rounding.proofs.Ramps.{break-alone}
 use Rattle.rounding.proofs.Limited.{smaller-is, smaller-mono, smaller-positive}
 use Rattle.standard.specs.Arrangements.{factorOf}
 use Rattle.standard.specs.Codes.{forcesIn}
-use Rattle.standard.specs.Coefficients.{slopeMu}
+use Rattle.standard.specs.Coefficients.{mu1, guarded, slopeMu}
 use Rattle.standard.specs.Forces.{SlopeAt, noSlope, someSlope, slopeAt, slopeLoad, wholeLoad, force, none, refused}
 use Rattle.standard.specs.Forces.{OverhangNear, overhangRule, overhangForce, overhangAt, overhangAnswer, overhangDistance}
 use Rattle.standard.specs.Forces.{GuardNear, guardRule, guardForce, guardAt, guardAnswer, guardDistance}
 use Rattle.standard.specs.Sine.{sineReference, sineEntry}
-use Rattle.standard.specs.Stretch.{load}
+use Rattle.standard.specs.Pitched.{slopeStretch}
+use Rattle.standard.specs.Stretch.{load, readIn}
 use Rattle.standard.specs.Numerators.{mu1Num, slopeNum}
 use Rattle.standard.proofs.Numerators.{slope-mu-positive, slope-mu-is}
 use Rattle.standard.proofs.Loads.{load-positive}
+use Rattle.standard.proofs.Runs.{even-in}
 use Rattle.standard.proofs.Sine.{sine-nearest, sine-most}
 
 -- a slope that an accepted roof has
@@ -98,6 +100,12 @@ load-most n d f s p q r =
     let t : f * s ≤ 1200000 * 25000 = mul-le-mul q r in
     omega (arith, mul-le-mul-right 80000000 p, mul-le-mul-left n t)
 
+-- S is whole: a load of 800.8 N/m² is 801.
+pub whole-801 :
+    wholeLoad (record { sk = 1001; ce = 100; ct = 100; cesl = 100; situation = 0; altitude = 0 }) (record { pitch = 300; width = 1 }) 0 ≡ 801
+unfolding wholeLoad slopeLoad factorOf guarded mu1 load breakLoad roundedUp ceilDiv
+whole-801 = refl
+
 alone-most : (m : ℕ) (f : Fraction) → 0 < f .den → f .num ≤ m * f .den → breakLoad 1 (alone f) ≤ m
 alone-most m f h p = rw (break-alone 1 f) (up-least 1 m f h (omega arith))
 
@@ -120,6 +128,16 @@ module _ (site : Site) (slope : Slope) (guard : ℕ) where
   whole-close : Close 1 1 (wholeLoad site slope guard) (exact (slopeLoad site slope guard))
   unfolding wholeLoad slopeLoad
   whole-close = alone-close _ (load-positive (slopeMu slope guard) (factorOf site 1) (site .sk) (slope-mu-positive slope guard))
+
+-- "S is the slope's code 1 load": what is returned for the slope in that code is S, in whatever parts it is worked.
+pub returned-is-whole :
+    (g : ℕ) (site : Site) (slope : Slope) (guard x : ℕ) → 0 < g → 0 < slope .width → x ≤ 4 * slope .width
+    → readIn g (slopeStretch (factorOf site 1) (site .sk) slope guard false) x ≡ wholeLoad site slope guard
+unfolding wholeLoad slopeLoad
+returned-is-whole g site slope guard x hg hw hx =
+    let f = load (slopeMu slope guard) (factorOf site 1) (site .sk) in
+    let h = load-positive (slopeMu slope guard) (factorOf site 1) (site .sk) (slope-mu-positive slope guard) in
+    even-in g (4 * slope .width) x f hg h (omega arith) hx ∙ sym (break-alone 1 f)
 
 -- 3S is whole, so the limit is put on the rounded figure as well as on the exact one.
 pub overhang-is : (s : ℕ) → overhangForce s ≡ min (3 * s) (ceilDiv (s * s * s) 3000000)

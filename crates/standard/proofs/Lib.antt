@@ -13,5 +13,8 @@ pub mod Numerators
 pub mod Pitched
 pub mod Projection
 pub mod Runs
+pub mod Segments
 pub mod Sine
+pub mod Tenths
+pub mod TenthsFigures
 pub mod ValleyDrift

@@ -10,7 +10,7 @@ use Rattle.figures.specs.declared.site.Site.{Site}
 use Rattle.figures.specs.declared.roof.Shape.{Shape}
 use Rattle.figures.specs.declared.roof.Shape.the-variants.{Monopitch, Pitched, MultiSpan, Cylindrical, Abutting, Projection}
 use Rattle.figures.specs.declared.roof.Roof.{Roof}
-use Rattle.rounding.specs.Fraction.{Fraction}
+use Rattle.rounding.specs.Fraction.{Fraction, Near}
 use Rattle.standard.specs.Codes.{accidental, baseCode, existsIn}
 use Rattle.standard.specs.Monopitch.{monopitch}
 use Rattle.standard.specs.Pitched.{pitched}
@@ -19,6 +19,7 @@ use Rattle.standard.specs.Cylindrical.{loadedWidth, cylindrical, cylindr
 use Rattle.standard.specs.Abutting.{abutting, abuttingCount}
 use Rattle.standard.specs.Projection.{projectionLength, projection, projectionCount}
 use Rattle.standard.specs.Stretch.{Stretch, segments, greatest, exactGreatest}
+use Rattle.standard.specs.Units.{parts}
 use Rattle.standard.specs.ValleyDrift.{spansStretch, spansCount, spansRamped}
 use Rattle.standard.specs.declared.National.{National}
 
@@ -83,14 +84,25 @@ stretch national site roof code i = stretchIn national (roof .shape) (roof .span
 unfoldable pub endOf : Roof → ℕ
 endOf roof = endIn (roof .shape) (roof .spans)
 
--- the segments of an arrangement, four numbers each
-unfoldable pub arrangement : National → Site → Roof → ℕ → List ℕ
-arrangement national site roof code = segments (stretch national site roof code) (count national roof code)
+-- the segments of an arrangement, four numbers each, and the load read at a station, with loads worked in parts, g to the N/m²
+unfoldable pub arrangementInParts : ℕ → National → Site → Roof → ℕ → List ℕ
+arrangementInParts g national site roof code = segments g (stretch national site roof code) (count national roof code)
+
+unfoldable pub loadInParts : ℕ → National → Site → Roof → ℕ → ℕ → ℕ
+loadInParts g national site roof code p = greatest g (stretch national site roof code) p (count national roof code)
+
+-- what is returned: worked in tenths
+abbrev pub arrangement : National → Site → Roof → ℕ → List ℕ
+arrangement national site roof code = arrangementInParts parts national site roof code
 
 -- "The load read is the reading that the call with site, roof, arrangement and station returns"
-unfoldable pub loadAt : National → Site → Roof → ℕ → ℕ → ℕ
-loadAt national site roof code p = greatest (stretch national site roof code) p (count national roof code)
+abbrev pub loadAt : National → Site → Roof → ℕ → ℕ → ℕ
+loadAt national site roof code p = loadInParts parts national site roof code p
 
 -- "By the exact rule its load at that station is meant, worked from the same figures"
 unfoldable pub exactAt : National → Site → Roof → ℕ → ℕ → Fraction
 exactAt national site roof code p = exactGreatest (stretch national site roof code) p (count national roof code)
+
+-- "A reading is then less than 1.2 N/m² above the exact rule. Demand 3's distance of 3 becomes that" (document 02, A4); and never below it
+abbrev pub NearExact : ℕ → Fraction → Type 0
+NearExact r f = Near 10 12 r f

@@ -31,7 +31,7 @@ slopeAt (Cylindrical rise span) n = noSlope
 slopeAt (Abutting b1 b2 h slope guard) n = noSlope
 slopeAt (Projection h left right) n = noSlope
 
--- "S is the slope's code 1 load": its exact load, and the whole number
+-- "S is the slope's code 1 load": its exact load, and the whole number; "S stays whole" where loads are worked in tenths (document 02, A4)
 unfoldable pub slopeLoad : Site → Slope → ℕ → Load
 slopeLoad site slope guard = loadAlone (slopeMu slope guard) (factorOf site 1) (site .sk)
 

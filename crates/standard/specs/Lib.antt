@@ -14,5 +14,6 @@ pub mod Pitched
 pub mod Projection
 pub mod Sine
 pub mod Stretch
+pub mod Tenths
 pub mod Units
 pub mod ValleyDrift

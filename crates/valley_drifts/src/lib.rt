@@ -16,8 +16,9 @@ use ramps::Ramp;
 use ramps::even;
 use ramps::whole;
 use slope_ramps::widths_between;
+use standard::PARTS;
 
-// The smallest of 2h, 2 × b3 × sk/ls and 5 × sk, rounded up: each limit times ls, and one division.
+// The smallest of 2h, 2 × b3 × sk/ls and 5 × sk in tenths, rounded up: each limit times ls, and one division.
 fn peak_load(h: u32, b3: u32, ls: u64, sk: u64) -> u64
     requires { ⌜ Within 1 200000 ls × (sk ≤ 25000) ⌝ }
     ensures { λ r. ⌜ (r ≡ breakLoad parts (alone (peak h b3 ls sk))) × (r ≤ largestPart) ⌝ }
@@ -26,7 +27,7 @@ fn peak_load(h: u32, b3: u32, ls: u64, sk: u64) -> u64
     let length = 2 * (b3 as u64) * sk;
     let ground = 5 * sk * ls;
     let smallest = rounding::least(depth, rounding::least(length, ground));
-    rounding::ceil_div(smallest, ls)
+    rounding::ceil_div(PARTS * smallest, ls)
 }
 
 // The load at valley v.

@@ -1,4 +1,5 @@
--- The figures that document 01 marks with a star, as one table with one claim, computed from the definitions.
+-- The figures that document 01 marks with a star, as one table with one claim, computed from the definitions; "document 01's figures
+-- stay" (document 02, A4), so they are the same where loads are worked in tenths.
 -- Ce = Ct = 100, sk = 1,000 unless said.
 use Prim.Native.Nat.{ℕ}
 use mathlib.Core.Bool.{false}
@@ -17,7 +18,7 @@ use Rattle.rounding.specs.Load.{breakLoad}
 use Rattle.rounding.specs.Ramp.{reading}
 use Rattle.rounding.specs.Up.{ceilDiv, roundedUp}
 use Rattle.standard.specs.Abutting.{wallLoad, abuttingDrift, abutting, abuttingCount}
-use Rattle.standard.specs.Arrangements.{factorOf, countIn, stretchIn, count, stretch, arrangement, loadAt}
+use Rattle.standard.specs.Arrangements.{factorOf, countIn, stretchIn, count, stretch, arrangementInParts, arrangement, loadInParts, loadAt}
 use Rattle.standard.specs.Coefficients.{recommendedFigures, mu1, guarded, mu2, mu3, driftLength, muWind, muSlide}
 use Rattle.standard.specs.Cylindrical.{firstFrom, wideEnough, loadedWidth, archEven, archDrift, peakLoad, halfLoad, cylindrical, cylindricalCount}
 use Rattle.standard.specs.Forces.{overhangRule, overhangForce}
@@ -107,12 +108,12 @@ stated =
 -- the claim
 pub starred : computed ≡ stated
 unfolding computed stated
-    arrangement count countIn spansCount cylindricalCount abuttingCount stretch stretchIn spansStretch factorOf
+    arrangementInParts count countIn spansCount cylindricalCount abuttingCount stretch stretchIn spansStretch factorOf
     monopitch pitched multiSpan multiSpanFrom multiSpanTo ownLoad valleyLoad
     cylindrical archDrift archEven peakLoad halfLoad loadedWidth firstFrom wideEnough
     abutting abuttingDrift wallLoad
     mu1 guarded mu2 mu3 driftLength muWind muSlide
-    segments segment startOf readIn load loadAt greatest readingAt holds
+    segments segment startOf readIn load loadInParts greatest readingAt holds
     reading breakLoad roundedUp ceilDiv sum smaller larger heldTo
     shapeRefusal slopeOf slopesFields steepValleys firstOf
     overhangForce overhangRule

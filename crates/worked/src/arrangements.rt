@@ -36,7 +36,12 @@ fn expected(site: Site, roof: Roof, code: u8, answer: usize, place: usize) -> u3
     if place % 4 < 2 {
         return station;
     }
-    second::load_on(second::ground_of(site, code), segment, station)
+    second::load_on(
+        second::ground_of(site, code),
+        segment,
+        station,
+        second::TENTHS,
+    )
 }
 
 // Whether the slice holds other numbers.
@@ -63,9 +68,15 @@ pub fn made(site: Site, roof: Roof, code: u8, room: usize) -> usize
     answer
 }
 
-// A number of the slice that the maker fills.
-pub fn number_at(site: Site, roof: Roof, code: u8, place: u32) -> u32 {
+// The slice that the maker fills.
+pub fn numbers(site: Site, roof: Roof, code: u8) -> [u32; 128] {
     let mut out = [BLANK; 128];
     arrangement::make(site, roof, code, &mut out);
+    out
+}
+
+// A number of that slice.
+pub fn number_at(site: Site, roof: Roof, code: u8, place: u32) -> u32 {
+    let out = numbers(site, roof, code);
     out[(place % 128) as usize]
 }

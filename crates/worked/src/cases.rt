@@ -37,6 +37,7 @@ fn one_code(tally: Tally, site: Site, roof: Roof, code: u8) -> Tally {
     let readings = tally.readings;
     t.arrangements = compared(tally.arrangements, made(site, roof, code, 128) != n);
     t.segments = more(tally.segments, n);
+    t.drops = super::drops::segments(tally.drops, site, roof, code, n);
     t.refusals = super::refusals::beyond(tally.refusals, site, roof, code, n);
     t.readings = super::readings::stations(readings, site, roof, code, n);
     t

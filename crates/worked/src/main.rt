@@ -3,6 +3,7 @@
 // stored figure or to a second calculation, and writes what it counted.
 mod arrangements;
 mod cases;
+mod drops;
 mod forces;
 mod ground;
 mod lines;

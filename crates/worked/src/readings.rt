@@ -1,5 +1,6 @@
 // The reader against the load expected at a station, and against the exact load there.
 ghost use Prim.Native.Nat.{_≤_, _<_};
+use super::drops::dropped;
 use super::tally::DIFFERENT;
 use super::tally::Readings;
 use super::tally::compared;
@@ -13,8 +14,8 @@ use second::Segment;
 // What is added to the number of a refusal: no load.
 pub const REFUSED: u32 = 4_000_000_000;
 
-// 3 N/m² in thousandths.
-const FAR: u32 = 3_000;
+// 1.2 N/m² in thousandths: by A4 a reading is "less than 1.2 N/m² above the exact rule".
+const FAR: u32 = 1_200;
 
 fn load_of(reading: Reading) -> u32 {
     match reading {
@@ -54,7 +55,8 @@ fn falls(site: Site, roof: Roof, code: u8, station: u32, lighter: u32) -> bool {
 fn station(count: Readings, site: Site, roof: Roof, code: u8, station: u32) -> Readings {
     let ground = second::ground_of(site, code);
     let load = load(site, roof, code, station);
-    let expected = second::load_read(ground, roof, code, station);
+    let expected = second::load_read(ground, roof, code, station, second::TENTHS);
+    let before = second::load_read(ground, roof, code, station, second::WHOLE);
     let low = !second::apart(ground, roof, code, station, load, 0);
     let far = second::apart(ground, roof, code, station, load, FAR);
     let falls = falls(site, roof, code, station, load);
@@ -64,6 +66,7 @@ fn station(count: Readings, site: Site, roof: Roof, code: u8, station: u32) -> R
         far: more(count.far, far as usize),
         falling: more(count.falling, falls as usize),
         worst: worst_of(ground, roof, code, station, load, count.worst),
+        drops: dropped(count.drops, before, load),
     }
 }
 

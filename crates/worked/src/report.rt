@@ -3,8 +3,10 @@ use super::tally::DIFFERENT;
 use super::tally::Tally;
 use stored_lines::behind;
 
-fn counts_of(t: Tally) -> [u64; 19] {
+fn counts_of(t: Tally) -> [u64; 29] {
+    let made = t.drops;
     let r = t.readings;
+    let read = r.drops;
     [
         t.lines % DIFFERENT,
         t.lines / DIFFERENT,
@@ -13,6 +15,11 @@ fn counts_of(t: Tally) -> [u64; 19] {
         t.arrangements % DIFFERENT,
         t.segments,
         t.arrangements / DIFFERENT,
+        made.none,
+        made.one,
+        made.two,
+        made.other,
+        made.worst as u64,
         t.refusals % DIFFERENT,
         t.refusals / DIFFERENT,
         r.loads % DIFFERENT,
@@ -21,6 +28,11 @@ fn counts_of(t: Tally) -> [u64; 19] {
         r.far,
         r.falling,
         r.worst as u64,
+        read.none,
+        read.one,
+        read.two,
+        read.other,
+        read.worst as u64,
         t.forces % DIFFERENT,
         t.forces / DIFFERENT,
         t.ground % DIFFERENT,
@@ -29,13 +41,13 @@ fn counts_of(t: Tally) -> [u64; 19] {
 }
 
 // The text, with the counts in turn for each #, the last of which ends it.
-fn filled(counts: [u64; 19], text: &[u8]) {
+fn filled(counts: [u64; 29], text: &[u8]) {
     let mut i = 0;
     let mut at = 0;
     while at < text.len() {
         let end = behind(text, at, b'#');
         io::write_all(libc::STDOUT_FILENO, &text[at..end - 1]);
-        io::print_decimal(libc::STDOUT_FILENO, counts[i % 19]);
+        io::print_decimal(libc::STDOUT_FILENO, counts[i % 29]);
         i += 1;
         at = end;
     }
@@ -46,6 +58,6 @@ fn filled(counts: [u64; 19], text: &[u8]) {
 pub fn report(tally: Tally) {
     filled(
         counts_of(tally),
-        b"LINES # UNREADABLE #\nFIGURES # DIFFERENT #\nARRANGEMENTS # SEGMENTS # DIFFERENT #\nREFUSALS # DIFFERENT #\nREADINGS # DIFFERENT # TOO LOW # TOO FAR # FALLING #\nWORST DISTANCE # THOUSANDTHS\nFORCES # DIFFERENT #\nGROUND LOADS # DIFFERENT #",
+        b"LINES # UNREADABLE #\nFIGURES # DIFFERENT #\nARRANGEMENTS # SEGMENTS # DIFFERENT #\nSEGMENT LOADS AS BEFORE # LOWER BY 1 # LOWER BY 2 # OTHERWISE # WORST DROP #\nREFUSALS # DIFFERENT #\nREADINGS # DIFFERENT # TOO LOW # TOO FAR # FALLING #\nWORST DISTANCE # THOUSANDTHS\nLOADS READ AS BEFORE # LOWER BY 1 # LOWER BY 2 # OTHERWISE # WORST DROP #\nFORCES # DIFFERENT #\nGROUND LOADS # DIFFERENT #",
     );
 }

@@ -1,13 +1,23 @@
 // What is counted. A count has the answers in its lower half, and those that differ in its upper half.
 
-// Loads read; those below the exact load, 3 N/m² and more above it, and falling where the ground load rises; and the worst distance
-// above the exact load, in thousandths.
+// Loads by how far they lie below what they were before A4: not at all, by 1, by 2, or otherwise, as one that rose; and the worst drop.
+pub struct Drops {
+    pub none: u64,
+    pub one: u64,
+    pub two: u64,
+    pub other: u64,
+    pub worst: u32,
+}
+
+// Loads read; those below the exact load, 1.2 N/m² and more above it, and falling where the ground load rises; the worst distance
+// above the exact load, in thousandths; and the drops of loads read.
 pub struct Readings {
     pub loads: u64,
     pub low: u64,
     pub far: u64,
     pub falling: u64,
     pub worst: u32,
+    pub drops: Drops,
 }
 
 pub struct Tally {
@@ -15,6 +25,7 @@ pub struct Tally {
     pub figures: u64,
     pub arrangements: u64,
     pub segments: u64,
+    pub drops: Drops,
     pub refusals: u64,
     pub readings: Readings,
     pub forces: u64,
@@ -45,18 +56,27 @@ pub fn compared(count: u64, other: bool) -> u64 {
 
 // Nothing yet.
 pub fn nothing() -> Tally {
+    let drops = Drops {
+        none: 0,
+        one: 0,
+        two: 0,
+        other: 0,
+        worst: 0,
+    };
     let readings = Readings {
         loads: 0,
         low: 0,
         far: 0,
         falling: 0,
         worst: 0,
+        drops: drops,
     };
     Tally {
         lines: 0,
         figures: 0,
         arrangements: 0,
         segments: 0,
+        drops: drops,
         refusals: 0,
         readings: readings,
         forces: 0,

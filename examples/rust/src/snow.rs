@@ -95,7 +95,7 @@ pub fn make(sheet: &[u8], item: usize, code: u8, out: &mut [u32]) -> Answer {
     unsafe { ffi::snow_make(sheet.as_ptr(), sheet.len(), item, code, out, room) }.into()
 }
 
-/// The load at a station, in N/m².
+/// The load at a station, in whole N/m².
 pub fn load(sheet: &[u8], item: usize, code: u8, station: u32) -> Answer {
     // SAFETY: a slice has the length given with it.
     unsafe { ffi::snow_load(sheet.as_ptr(), sheet.len(), item, code, station) }.into()

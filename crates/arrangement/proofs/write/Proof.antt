@@ -8,6 +8,7 @@ use Rattle.figures.proofs.Accepted.{site-in, shape-in}
 use Rattle.segments.proofs.Grounds.{grounded}
 use Rattle.standard.specs.Arrangements.{stretchIn}
 use Rattle.standard.specs.Stretch.{startOf, segments}
+use Rattle.standard.specs.Units.{parts}
 use Rattle.standard.proofs.Demand.{well-formed}
 use Rattle.arrangement.proofs.Writing.{one-more, arranged, arranged-index, arranged-end}
 use native.Mathlib.Omega.{arith}
@@ -18,7 +19,7 @@ use Rattle.arrangement.proofs.write.Tie as tie
 abbrev Inv-loop : tie.InvT-loop
 Inv-loop national shape spans code n out₀ base factor sk start₀ i₀ out start i = (i ≤ n)
     × (start ≡ startOf (stretchIn national shape spans factor sk base) i)
-    × (out ≡ segments (stretchIn national shape spans factor sk base) i ++ drop (4 * i) out₀)
+    × (out ≡ segments parts (stretchIn national shape spans factor sk base) i ++ drop (4 * i) out₀)
     × (length out ≡ length out₀)
 
 abbrev μ-loop : tie.MeasureT-loop

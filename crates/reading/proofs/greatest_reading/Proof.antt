@@ -1,7 +1,7 @@
 use native.Mathlib.Numerals.{add-one}
 use mathlib.Core.Path.{_≡_, refl}
 use Prim.Native.Nat.{_≤_, _-_}
-use Rattle.standard.specs.Units.{largestLoad, largestPosition}
+use Rattle.standard.specs.Units.{parts, largestLoad, largestPosition}
 use Rattle.standard.specs.Stretch.{startOf, greatest}
 use Rattle.standard.specs.Arrangements.{stretch}
 use Rattle.figures.specs.RoofRules.{roofOf}
@@ -14,7 +14,7 @@ use Rattle.reading.proofs.greatest_reading.Tie as tie
 
 abbrev Inv-loop : tie.InvT-loop
 Inv-loop national site shape spans code n station load₀ start₀ i₀ load start i = (i ≤ n)
-    × (load ≡ greatest (stretch national site (roofOf shape spans) code) station i)
+    × (load ≡ greatest parts (stretch national site (roofOf shape spans) code) station i)
     × (load ≤ largestLoad)
     × (start ≡ startOf (stretch national site (roofOf shape spans) code) i)
 

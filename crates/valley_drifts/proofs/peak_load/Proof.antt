@@ -2,7 +2,6 @@ use Prim.Native.Nat.{_*_, _≤_}
 use mathlib.Core.Path.{_≡_, sym, _∙_}
 use native.Mathlib.Nat.{mul-le-mul}
 use native.Mathlib.Omega.{arith}
-use Rattle.rounding.specs.Up.{ceilDiv}
 use Rattle.rounding.proofs.Ramps.{break-alone}
 use Rattle.standard.specs.Numerators.{peakNum}
 use Rattle.standard.specs.Units.{parts}
@@ -35,6 +34,15 @@ least-requires c κs = search needs
 least-requires-2 : tie.Need-least-requires-2
 least-requires-2 c κs = search needs
 
+-- the smallest is no larger than any of the three
+mul-ceil-div : tie.Need-mul-ceil-div
+mul-ceil-div c =
+    let s = c .before .before in
+    let g : 5 * s .args .sk ≤ 125000 = omega arith in
+    let d : 2 * s .args .h ≤ 8589934590 = omega arith in
+    let l = s .pre .0 .high in
+    omega (arith, c .least2 .ensures, c .before .least .ensures, mul-le-mul g l, mul-le-mul d l)
+
 ceil-div-requires : tie.Need-ceil-div-requires
 ceil-div-requires c κs = search needs
 
@@ -45,8 +53,10 @@ returns c =
     let a = s .args in
     let positive = s .pre .0 .low in
     let n : c .before .least2 .result ≡ peakNum (a .h) (a .b3) (a .ls) (a .sk) = omega (arith, c .before .least2 .ensures, c .before .before .least .ensures) in
-    let e : c .ceil-div .result ≡ ceilDiv (peakNum (a .h) (a .b3) (a .ls) (a .sk)) (a .ls) = cc in
-    (e ∙ (peak-rounded _ _ _ positive _ ∙ sym (break-alone parts _)), omega (arith, e, peak-most (a .h) (a .b3) (a .ls) positive (a .sk), s .pre .1))
+    let r = c .ceil-div in (
+      peak-rounded (a .h) (a .b3) (a .ls) positive parts (a .sk) _ _ (omega arith) (r .ensures) ∙ sym (break-alone parts _),
+      omega (arith, peak-most (a .h) (a .b3) (a .ls) positive parts (a .sk) _ _ (omega arith) (r .ensures), s .pre .1),
+    )
 
 pub peak-load-spec : {M : Type 1} → statement M
 peak-load-spec =
@@ -60,5 +70,6 @@ peak-load-spec =
     mul-ground-2
     least-requires
     least-requires-2
+    mul-ceil-div
     ceil-div-requires
     returns)

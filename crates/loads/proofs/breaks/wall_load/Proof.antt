@@ -4,6 +4,7 @@ use Rattle.loads.proofs.Parts.{part-is, part-without, both-are}
 use Rattle.standard.proofs.Numerators.{wind-is, wind-positive, slide-is, slide-positive}
 use Rattle.standard.specs.Coefficients.{muWind, muSlide}
 use Rattle.standard.specs.Abutting.{wallLoad}
+use Rattle.standard.specs.Units.{parts, largestPart}
 use Prim.Native.Nat.{_*_, _≤_}
 use native.Mathlib.Omega.{arith}
 use borrow.Author.Needs.{needs}
@@ -12,7 +13,7 @@ use Rattle.loads.proofs.breaks.wall_load.Tie as tie
 
 wind-fits :
     (c : tie.After-wind-numerator) → let a = c .before .args in
-    c .wind-numerator .result * a .factor ≤ 7200000 * (200 * a .h * 1000000)
+    parts * (c .wind-numerator .result * a .factor) ≤ largestPart * (200 * a .h * 1000000)
 wind-fits c =
     let a = c .before .args in
     wind-most _ (a .h) (a .factor) (a .sk) (c .before .pre .7) (c .wind-numerator .ensures .1)

@@ -13,11 +13,17 @@ cast-slope-load c = search needs
 slope-load-requires : tie.Need-slope-load-requires
 slope-load-requires c κs = search needs
 
+ceil-div-requires : tie.Need-ceil-div-requires
+ceil-div-requires c κs = search needs
+
 returns : tie.Need-returns
 returns c =
-    let s = c .before .before .before in
-    let e = whole-is (s .args .site) (s .args .slope) (s .args .guard) _ _ (c .before .before .factor .ensures .0) (c .slope-load .ensures .0) in
+    let l = c .before in
+    let s = l .before .before .before in
+    let a = s .args in
+    let f = l .before .before .factor in
+    let e = whole-is (a .site) (a .slope) (a .guard) _ _ _ (f .ensures .0) (l .slope-load .ensures .0) (c .ceil-div .ensures) in
     (e, rw e (whole-most _ _ _ (s .pre .0) (s .pre .1)))
 
 pub whole-load-spec : {M : Type 1} → statement M
-whole-load-spec = tie.close (tie.spec factor-requires cast-slope-load slope-load-requires returns)
+whole-load-spec = tie.close (tie.spec factor-requires cast-slope-load slope-load-requires ceil-div-requires returns)

@@ -5,7 +5,7 @@ use Rattle.second_numbers.proofs.number.least.Statement.{statement}
 use Rattle.second_numbers.proofs.number.least.Tie as tie
 
 abbrev Inv-loop : tie.InvT-loop
-Inv-loop num den from₀ to₀ from to = (from ≤ to) × (to ≤ 4194304)
+Inv-loop num den from₀ to₀ from to = (from ≤ to) × (to ≤ 268435456)
 
 abbrev μ-loop : tie.MeasureT-loop
 μ-loop num den from₀ to₀ from to = to - from

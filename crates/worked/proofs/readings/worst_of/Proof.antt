@@ -8,7 +8,7 @@ abbrev Inv-loop : tie.InvT-loop
 Inv-loop ground roof code station load worst further₀ further = 0 ≤ further
 
 abbrev μ-loop : tie.MeasureT-loop
-μ-loop ground roof code station load worst further₀ further = 3000 - further
+μ-loop ground roof code station load worst further₀ further = 1200 - further
 
 loop-holds : tie.Need-loop-holds Inv-loop μ-loop
 loop-holds c = search needs
