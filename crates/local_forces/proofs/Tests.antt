@@ -14,8 +14,7 @@ use Rattle.figures.specs.declared.roof.Shape.the-variants.{Monopitch, Pitched}
 use Rattle.figures.specs.declared.roof.Roof.{Roof}
 use Rattle.rounding.specs.Load.{breakLoad}
 use Rattle.rounding.specs.Up.{ceilDiv}
-use Rattle.rounding.proofs.Ramps.{break-alone}
-use Rattle.rounding.proofs.Rounding.{up-twice}
+use Rattle.rounding.proofs.Ramps.{break-alone, alone-whole}
 use Rattle.standard.specs.Arrangements.{factorOf}
 use Rattle.standard.specs.Coefficients.{slopeMu}
 use Rattle.standard.specs.Stretch.{load, loadAlone}
@@ -65,7 +64,7 @@ unfolding wholeLoad slopeLoad
 whole-is site slope guard f t r p q e =
     let s = load (slopeMu slope guard) (factorOf site 1) (site .sk) in
     let u = load-positive (slopeMu slope guard) (factorOf site 1) (site .sk) (slope-mu-positive slope guard) in
-    e ∙ rw (q, p, break-alone parts s, break-alone 1 s) (up-twice parts s (omega arith) u)
+    e ∙ rw (q, p, break-alone 1 s) (alone-whole parts s (omega arith) u)
 
 -- what the calls answer: the first broken rule, or the force at the slope
 module _ (site : Site) (roof : Roof) (n : ℕ) where

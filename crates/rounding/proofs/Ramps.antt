@@ -52,6 +52,10 @@ pub break-alone : (g : ℕ) (f : Fraction) → breakLoad g (alone f) ≡ rounded
 unfolding breakLoad
 break-alone g f = omega (arith, up-nothing g)
 
+-- Rounded up to a whole number from whatever parts, it is that part rounded up to a whole number.
+pub alone-whole : (g : ℕ) (f : Fraction) → 0 < g → 0 < f .den → ceilDiv (breakLoad g (alone f)) g ≡ roundedUp 1 f
+alone-whole g f hg h = rw (break-alone g f) (up-twice g f hg h)
+
 pub break-close : (g : ℕ) (l : Load) → Positive l → Close g 2 (breakLoad g l) (exact l)
 unfolding breakLoad exact
 break-close g l h = sum-close (up-close g (l .first) (h .first)) (up-close g (l .second) (h .second)) (h .first) (h .second)
@@ -136,24 +140,24 @@ ramp-finer g h from to full x hg hh hf p q =
     reading-finer g h _ _ _ _ full x hg hh hf (break-finer g h from p) (break-finer g h to q)
 
 -- what is read at the ends of an uncut ramp, along an even one, and at most
-module _ (g F T full : ℕ) (hg : 0 < g) (h : 0 < full) where
-  whole-length : (m n : ℕ) → n ≡ m * full → ceilDiv n (g * full) ≡ ceilDiv m g
-  whole-length m n e =
-      let a : n ≡ full * m = omega arith in
-      let b : g * full ≡ full * g = omega arith in
-      rw (a, b) (same-factor full m g h hg)
+whole-length : (g full : ℕ) → 0 < g → 0 < full → (m n : ℕ) → n ≡ m * full → ceilDiv n (g * full) ≡ ceilDiv m g
+whole-length g full hg h m n e =
+    let a : n ≡ full * m = omega arith in
+    let b : g * full ≡ full * g = omega arith in
+    rw (a, b) (same-factor full m g h hg)
 
+pub reading-even : (g F full : ℕ) → 0 < g → 0 < full → (x : ℕ) → x ≤ full → reading g F F full x ≡ ceilDiv F g
+unfolding reading
+reading-even g F full hg h x hx = whole-length g full hg h F _ (omega (arith, ap (λ (z : ℕ). F * z) (sub-add-cancel hx)))
+
+module _ (g F T full : ℕ) (hg : 0 < g) (h : 0 < full) where
   pub reading-start : reading g F T full 0 ≡ ceilDiv F g
   unfolding reading
-  reading-start = let z : full - 0 ≡ full = omega arith in whole-length F _ (rw z (omega arith))
+  reading-start = let z : full - 0 ≡ full = omega arith in whole-length g full hg h F _ (rw z (omega arith))
 
   pub reading-end : reading g F T full full ≡ ceilDiv T g
   unfolding reading
-  reading-end = let z : full - full ≡ 0 = omega arith in whole-length T _ (rw z (omega arith))
-
-  pub reading-even : (x : ℕ) → x ≤ full → reading g F F full x ≡ ceilDiv F g
-  unfolding reading
-  reading-even x hx = whole-length F _ (omega (arith, ap (λ (z : ℕ). F * z) (sub-add-cancel hx)))
+  reading-end = let z : full - full ≡ 0 = omega arith in whole-length g full hg h T _ (rw z (omega arith))
 
   pub reading-most : (x m : ℕ) → x ≤ full → F ≤ g * m → T ≤ g * m → reading g F T full x ≤ m
   unfolding reading
@@ -165,4 +169,4 @@ module _ (g F T full : ℕ) (hg : 0 < g) (h : 0 < full) where
 pub even-whole :
     (g : ℕ) (f : Fraction) (full x : ℕ) → 0 < g → 0 < f .den → 0 < full → x ≤ full
     → reading g (breakLoad g (alone f)) (breakLoad g (alone f)) full x ≡ roundedUp 1 f
-even-whole g f full x hg hd h hx = rw (break-alone g f, reading-even g _ (roundedUp g f) full hg h x hx) (up-twice g f hg hd)
+even-whole g f full x hg hd h hx = rw (reading-even g (breakLoad g (alone f)) full hg h x hx) (alone-whole g f hg hd)

@@ -10,11 +10,11 @@ use native.Mathlib.Nat.{mul-le-mul, mul-le-mul-left, mul-pos, le-trans, add-sub-
 use native.Mathlib.Omega.{arith}
 use Rattle.figures.specs.Ranges.{within}
 use Rattle.figures.specs.Bounds.{CylindricalIn}
-use Rattle.rounding.specs.Fraction.{Fraction, over}
+use Rattle.rounding.specs.Fraction.{over}
 use Rattle.rounding.specs.Up.{roundedUp}
-use Rattle.rounding.specs.Load.{Load, Positive, alone}
-use Rattle.rounding.proofs.Ramps.{break-alone}
-use Rattle.rounding.proofs.Rounding.{below-least, up-nothing, up-twice}
+use Rattle.rounding.specs.Load.{Load, Positive}
+use Rattle.rounding.proofs.Ramps.{alone-whole}
+use Rattle.rounding.proofs.Rounding.{below-least, up-nothing}
 use Rattle.standard.specs.Coefficients.{mu3}
 use Rattle.standard.specs.Stretch.{even, load, startOf, eightTenths, noLoad}
 use Rattle.standard.specs.Cylindrical.{firstFrom, wideEnough, loadedWidth, archEven, archDrift, peakLoad, halfLoad, cylindrical, cylindricalCount}
@@ -134,19 +134,15 @@ module _ (rise span : ℕ) where
       by-steepness (λ w. 0 < w) (omega arith)
       (pos-of-ne-zero (λ z. nothing-not-wide h (rw z at (found .taken (omega arith)))))
 
--- a load of one part is returned rounded up
-alone-returned : (f : Fraction) → 0 < f .den → returned (alone f) ≡ roundedUp 1 f
-alone-returned f h = rw (break-alone parts f) (up-twice parts f (omega arith) h)
-
 no-load-returned : returned noLoad ≡ 0
-no-load-returned = alone-returned (over 0 1) (omega arith) ∙ up-nothing 1
+no-load-returned = alone-whole parts (over 0 1) (omega arith) (omega arith) ∙ up-nothing 1
 
 eight-tenths-returned : (factor sk : ℕ) → 0 < factor → 0 < sk → 0 < returned (eightTenths factor sk)
 unfolding roundedUp load
 eight-tenths-returned factor sk hf hs =
     omega (
       arith,
-      alone-returned (load (over 8 10) factor sk) (omega arith),
+      alone-whole parts (load (over 8 10) factor sk) (omega arith) (omega arith),
       below-least (1 * (8 * factor * sk)) (10 * 1000000) 0 (omega arith) (omega (arith, mul-pos hf hs)),
     )
 
