@@ -62,10 +62,12 @@ uint32_t snow_make(const uint8_t *sheet, size_t length, size_t item, uint8_t cod
 uint32_t snow_load(const uint8_t *sheet, size_t length, size_t item, uint8_t code, uint32_t station);
 
 /* The overhang at the eave of a slope (1 left or only, 2 right), in N/m, SNOW_NONE, or a refusal (1 to 10, 14, 15,
- * 12 for the index). The site, item 0, has none. */
+ * 12 for the index). Either eave of a pitched roof has that of the larger of its two slopes' loads. The site, item 0,
+ * has none. */
 uint32_t snow_overhang(const uint8_t *sheet, size_t length, size_t item, uint8_t slope);
 
-/* The force at the guard of a slope, in N/m, SNOW_NONE, or a refusal (1 to 10, 14, 15, 12 for the index). */
+/* The force at the guard of a slope, from that slope's own load, in N/m, SNOW_NONE, or a refusal (1 to 10, 14, 15,
+ * 12 for the index). */
 uint32_t snow_guard_force(const uint8_t *sheet, size_t length, size_t item, uint8_t slope);
 
 /* Writes the listing of a sheet at the front of out, the line REFUSED for a refused one, and answers its bytes.

@@ -91,6 +91,13 @@ SHEETS = {
     "pitched_falls": sheet(site(950, cesl=220, situation=1, altitude=60), pitched((15.0, 15.0), (8_500, 8_500))),
     "pitched_guards": sheet(site(2_800, altitude=1_180), pitched((35.0, 50.0), (7_200, 4_800), (1, 1))),
     "pitched_heavy": sheet(site(3_500, ce=120, altitude=1_350), pitched((18.0, 38.0), (6_000, 5_000), (0, 1))),
+    "pitched_eaves": sheet(
+        site(2_800, altitude=1_180),
+        pitched((18.0, 42.0), (7_200, 4_800)),
+        pitched((42.0, 18.0), (4_800, 7_200)),
+        pitched((38.0, 52.0), (7_200, 4_800), (0, 1)),
+        monopitch(42.0, 4_800),
+    ),
     # Kind 4
     "spans_two": sheet(site(1_000), multi_span((25.0, 20.0, 8_000, 8_000), (10.0, 25.0, 9_000, 8_000))),
     "spans_saw": sheet(site(1_250, ce=120, altitude=450), multi_span(SAW, SAW, SAW, SAW)),

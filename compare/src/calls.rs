@@ -5,7 +5,7 @@ use crate::forces;
 use crate::ground;
 use crate::listing;
 use crate::loads::Tenths;
-use crate::sheet::{number, Item, Items, Refusal, Roof, Site, Slope};
+use crate::sheet::{number, Item, Items, Refusal, Roof, Site};
 
 /// A refusal is this plus 65,536 × number plus the item; an index above 65,535 shows as 65,535.
 pub const REFUSED: u32 = 0x8000_0000;
@@ -125,12 +125,10 @@ fn force(
     sheet: &[u8],
     item: usize,
     slope: u8,
-    rule: fn(&Site, Slope) -> Option<u32>,
+    rule: fn(&Site, &Roof, u8) -> Option<u32>,
 ) -> Result<u32, Refusal> {
     let (site, roof) = ask(sheet, item)?;
-    let force = roof
-        .and_then(|roof| forces::slope(&roof, slope))
-        .and_then(|slope| rule(&site, slope));
+    let force = roof.and_then(|roof| rule(&site, &roof, slope));
     Ok(force.unwrap_or(NONE))
 }
 

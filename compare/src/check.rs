@@ -6,6 +6,7 @@ use second::calls::{self, LIST_ROOM};
 
 use crate::before::Before;
 use crate::draft;
+use crate::eaves::Eave;
 use crate::ffi;
 use crate::tally::{Call, Tally};
 
@@ -126,12 +127,17 @@ impl Checker {
         }
     }
 
+    /// Compares the overhangs, and holds one that both return to the rule over the unrounded load.
     pub fn overhang(&mut self, asked: Asked, item: usize, slope: u8) {
         let ours = calls::overhang(asked.sheet, item, slope);
         let theirs = ffi::overhang(asked.sheet, item, slope);
-        self.settle(Call::Overhang, asked, item, [ours, theirs], || {
-            format!("overhang item {item} slope {slope}")
-        });
+        let describe = || format!("overhang item {item} slope {slope}");
+        self.settle(Call::Overhang, asked, item, [ours, theirs], describe);
+        if ours == theirs && ours < calls::REFUSED {
+            if let Some(eave) = Eave::of(asked.sheet, item, slope, ours) {
+                self.tally.eave(asked.sheet, &eave, describe);
+            }
+        }
     }
 
     pub fn guard_force(&mut self, asked: Asked, item: usize, slope: u8) {

@@ -8,7 +8,7 @@ use std::path::PathBuf;
 use crate::calls;
 use crate::listing;
 
-const DEFAULT: &str = concat!(env!("CARGO_MANIFEST_DIR"), "/../crates/trials/data/A4.bin");
+const DEFAULT: &str = concat!(env!("CARGO_MANIFEST_DIR"), "/../crates/trials/data/A5.bin");
 /// Records of that file.
 const RECORDS: usize = 304;
 

@@ -6,7 +6,7 @@ use crate::random::Random;
 
 pub const SITE: u8 = 1;
 const MONOPITCH: u8 = 2;
-const PITCHED: u8 = 3;
+pub const PITCHED: u8 = 3;
 pub const MULTI_SPAN: u8 = 4;
 pub const CYLINDRICAL: u8 = 5;
 pub const LOWER: u8 = 6;
@@ -280,6 +280,17 @@ pub fn site_in(random: &mut Random, number: u32) -> Vec<u8> {
     let mut item = item(random, SITE);
     let field = situation(&item);
     put(&mut item, field, number);
+    item
+}
+
+/// A site with a ground load given, at an altitude or above it.
+pub fn site_above(random: &mut Random, altitude: u32) -> Vec<u8> {
+    let mut item = item(random, SITE);
+    put(
+        &mut item,
+        SITE_FIELDS[5],
+        random.between(altitude, MAX_ALTITUDE),
+    );
     item
 }
 

@@ -22,6 +22,14 @@ fn snow(ground_load: u32) -> Site {
     }
 }
 
+/// The lowest site with overhangs.
+fn mountain(ground_load: u32) -> Site {
+    Site {
+        altitude: 801,
+        ..snow(ground_load)
+    }
+}
+
 fn segments(site: &Site, roof: &Roof, code: u8) -> Vec<[u32; 4]> {
     let made = Arrangement::<Tenths>::of(site, roof, code).expect("the code exists");
     made.stretches().iter().map(|part| part.segment()).collect()
@@ -415,12 +423,9 @@ fn forces_have_whole_loads() {
         guard: true,
         width: 100_000,
     };
-    assert_eq!(forces::guard_force(&snow(1_001), slope), Some(40_050));
-    let site = Site {
-        altitude: 801,
-        ..snow(2_501)
-    };
-    assert_eq!(forces::overhang(&site, slope), Some(2_671));
+    let roof = Roof::Monopitch(slope);
+    assert_eq!(forces::guard_force(&snow(1_001), &roof, 1), Some(40_050));
+    assert_eq!(forces::overhang(&mountain(2_501), &roof, 1), Some(2_671));
 }
 
 #[test]
@@ -431,12 +436,65 @@ fn overhang() {
             altitude,
             ..SITE
         };
-        forces::overhang(&site, Slope::default())
+        forces::overhang(&site, &Roof::Monopitch(Slope::default()), 1)
     };
     assert_eq!(force(1_250, 801), Some(334));
     assert_eq!(force(3_750, 801), Some(9_000));
     assert_eq!(force(3_751, 801), Some(9_003));
     assert_eq!(force(1_250, 800), None);
+}
+
+/// Pitches left and right, guards, overhang and the two guard forces, worked by hand at 1,250 and
+/// 3,333 N/m². 0°, or any pitch with a guard, has S 1,000 and 2,667 (2,666.4); 45.0° has 500 and
+/// 1,334 (1,333.2), 60.0° has 0.
+#[test]
+fn overhang_of_the_worse_slope() {
+    let forces = |ground_load, pitches: [u16; 2], guards: [bool; 2]| {
+        let slope = |side: usize| Slope {
+            pitch: pitches[side],
+            guard: guards[side],
+            width: 5_000,
+        };
+        let roof = Roof::Pitched([slope(0), slope(1)]);
+        let site = mountain(ground_load);
+        let force = |slope| forces::guard_force(&site, &roof, slope);
+        assert_eq!(forces::overhang(&site, &roof, 0), None);
+        assert_eq!(forces::overhang(&site, &roof, 3), None);
+        (
+            [1, 2].map(|slope| forces::overhang(&site, &roof, slope).unwrap()),
+            [force(1), force(2)],
+        )
+    };
+    let bare = [false, false];
+    assert_eq!(forces(1_250, [0, 450], bare), ([334; 2], [None; 2]));
+    assert_eq!(forces(1_250, [450, 0], bare), ([334; 2], [None; 2]));
+    assert_eq!(forces(1_250, [450, 600], bare), ([42; 2], [None; 2]));
+    assert_eq!(forces(1_250, [600, 800], bare), ([0; 2], [None; 2]));
+    assert_eq!(forces(3_333, [600, 450], bare), ([792; 2], [None; 2]));
+    let left = [true, false];
+    let guarded = ([6_324; 2], [Some(6_668), None]);
+    assert_eq!(forces(3_333, [300, 450], left), guarded);
+    let right = [false, true];
+    let guarded = ([6_324; 2], [None, Some(6_668)]);
+    assert_eq!(forces(3_333, [450, 300], right), guarded);
+}
+
+/// At 45.0° under 3,333 N/m² S is 1,333.2, and the rule gives 789.886443; with S rounded up to
+/// 1,334 the overhang is 792.
+#[test]
+fn overhang_lies_above_its_rule() {
+    let slope = |pitch| Slope {
+        pitch,
+        ..Slope::default()
+    };
+    let distance = |ground_load, pitches: [u16; 2], force| {
+        let roof = Roof::Pitched(pitches.map(slope));
+        forces::overhang_distance(&mountain(ground_load), &roof, force)
+    };
+    assert_eq!(distance(3_333, [600, 450], 792), Some(2_113_556));
+    assert_eq!(distance(3_333, [450, 600], 789), None);
+    assert_eq!(distance(1_250, [0, 450], 334), Some(666_666));
+    assert_eq!(distance(3_751, [600, 0], 9_003), Some(600_000));
 }
 
 /// Zone, altitude and load for each line of Table C.1, worked by hand. At half a square's divisor

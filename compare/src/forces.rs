@@ -2,7 +2,7 @@
 
 use std::sync::LazyLock;
 
-use crate::loads::{mu1, Fall, Whole};
+use crate::loads::{mu1, Exact, Fall, Load, Whole};
 use crate::sheet::{Roof, Site, Slope};
 
 /// Above this altitude in m snow may hang over an eave (6.3).
@@ -29,29 +29,57 @@ pub fn slopes(roof: &Roof) -> &[Slope] {
     }
 }
 
-/// Snow overhanging the eave in N/m: the smaller of 3S and S³/3,000,000, rounded up.
-pub fn overhang(site: &Site, slope: Slope) -> Option<u32> {
+/// Snow overhanging the eave of a slope in N/m. By A5 it hangs there with the largest S of all
+/// slopes, so both eaves of a roof have the same.
+pub fn overhang(site: &Site, roof: &Roof, number: u8) -> Option<u32> {
+    slope(roof, number)?;
     if site.altitude <= OVERHANG_FROM {
         return None;
     }
-    let load = u64::from(slope_load(site, slope));
-    let force = (load * load * load).div_ceil(3 * MILLION).min(3 * load);
-    Some(force as u32)
+    slopes(roof)
+        .iter()
+        .map(|slope| overhang_of(whole_load(site, *slope)))
+        .max()
 }
 
-/// The force on the guard of a slope in N/m: S × width × sine, rounded up (6.5).
-pub fn guard_force(site: &Site, slope: Slope) -> Option<u32> {
+/// The smaller of 3S and S³/3,000,000, rounded up (6.4). It never falls as S rises.
+fn overhang_of(load: u32) -> u32 {
+    let load = u64::from(load);
+    (load * load * load).div_ceil(3 * MILLION).min(3 * load) as u32
+}
+
+/// The overhang that a slope would have by its own S, as before A5.
+pub fn own_overhang(site: &Site, slope: Slope) -> u32 {
+    overhang_of(whole_load(site, slope))
+}
+
+/// How far an overhang lies above the rule over the largest S, which is not rounded here, in
+/// millionths of a N/m rounded down. None where it lies below, or where the roof has no slope.
+pub fn overhang_distance(site: &Site, roof: &Roof, force: u32) -> Option<u64> {
+    let loads = slopes(roof).iter().map(|slope| load::<Exact>(site, *slope));
+    let largest = loads.reduce(Exact::larger)?;
+    largest.overhang().distance(force)
+}
+
+/// The force on the guard of a slope in N/m: its own S × width × sine, rounded up (6.5).
+pub fn guard_force(site: &Site, roof: &Roof, number: u8) -> Option<u32> {
+    let slope = slope(roof, number)?;
     if !slope.guard {
         return None;
     }
-    let snow = u64::from(slope_load(site, slope)) * u64::from(slope.width);
+    let snow = u64::from(whole_load(site, slope)) * u64::from(slope.width);
     let sine = u64::from(SINES[usize::from(slope.pitch)]);
     Some((snow * sine).div_ceil(1_000 * MILLION) as u32)
 }
 
-/// S, the load of code 1 in whole N/m².
-fn slope_load(site: &Site, slope: Slope) -> u32 {
-    Fall::persistent(site).load::<Whole>(mu1(slope)).whole()
+/// The load of code 1 on a slope.
+fn load<L: Load>(site: &Site, slope: Slope) -> L {
+    Fall::persistent(site).load(mu1(slope))
+}
+
+/// S, that load in whole N/m².
+fn whole_load(site: &Site, slope: Slope) -> u32 {
+    load::<Whole>(site, slope).whole()
 }
 
 /// The series x − x³/3! + … to the eleventh power in millionths, to the nearest whole number.

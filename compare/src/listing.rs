@@ -66,12 +66,15 @@ fn segment_lines(index: u32, site: &Site, roof: &Roof, out: &mut Vec<u8>) {
 }
 
 fn force_lines(index: u32, site: &Site, roof: &Roof, out: &mut Vec<u8>) {
-    for (number, slope) in (1..).zip(forces::slopes(roof)) {
-        if let Some(force) = forces::overhang(site, *slope) {
-            line(&[index, OVERHANG, number, force], out);
-        }
-        if let Some(force) = forces::guard_force(site, *slope) {
-            line(&[index, GUARD, number, force], out);
+    for slope in [1, 2] {
+        let forces = [
+            (OVERHANG, forces::overhang(site, roof, slope)),
+            (GUARD, forces::guard_force(site, roof, slope)),
+        ];
+        for (code, force) in forces {
+            if let Some(force) = force {
+                line(&[index, code, u32::from(slope), force], out);
+            }
         }
     }
 }

@@ -271,6 +271,28 @@ impl Exact {
         }
     }
 
+    /// The larger of this load and another.
+    pub fn larger(self, other: Self) -> Self {
+        if self.numerator * other.denominator < other.numerator * self.denominator {
+            other
+        } else {
+            self
+        }
+    }
+
+    /// The overhang over this load (6.4), a fraction of millionths of a N/m: the smaller of 3S and
+    /// S³/3,000,000. They meet at 3,000 N/m², below which the cube has less than 128 bits.
+    pub fn overhang(self) -> Self {
+        let million = u128::from(MILLION);
+        if self.numerator >= 3_000 * million * self.denominator {
+            return self.times(3);
+        }
+        Self {
+            numerator: self.numerator.pow(3),
+            denominator: 3 * (million * self.denominator).pow(3),
+        }
+    }
+
     /// How far a load in whole N/m² lies above, in millionths of a N/m² rounded down. None where
     /// it lies below.
     pub fn distance(self, load: u32) -> Option<u64> {

@@ -7,6 +7,7 @@ mod check;
 mod damage;
 mod draft;
 mod drifts;
+mod eaves;
 mod ffi;
 mod fuzz;
 mod measure;
@@ -39,6 +40,7 @@ fn main() -> ExitCode {
     fuzz.sweep_drifts();
     fuzz.sweep_pairs();
     fuzz.sweep_tenths();
+    fuzz.sweep_eaves();
     fuzz.run(sheets);
     let tally = &fuzz.checker.tally;
     tally.print();

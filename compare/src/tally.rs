@@ -1,8 +1,11 @@
 //! Counts of comparisons and answers, and the disagreements.
 
+use std::cmp::Ordering;
+
 use second::calls::{refusal_parts, NONE, REFUSED};
 
 use crate::before::Returned;
+use crate::eaves::Eave;
 
 /// The seven calls, in the order of the header.
 pub const CALLS: [&str; 7] = [
@@ -47,6 +50,8 @@ pub const DRIFT_ROUNDS: u64 = 24;
 pub const PAIRS: usize = 3;
 /// A load lies less than this above the exact rule, in millionths of a N/m².
 const DISTANCE: u64 = 1_200_000;
+/// An overhang lies less than this above the rule over the unrounded load, in millionths of a N/m.
+const EAVE_DISTANCE: u64 = 10_000_000;
 /// Disagreements that are written out.
 const SHOWN: u64 = 5;
 
@@ -83,6 +88,7 @@ pub struct Tally {
     pub drifts: DriftTally,
     pub pairs: PairTally,
     pub tenths: TenthsTally,
+    pub eaves: EaveTally,
     disagreements: u64,
 }
 
@@ -250,6 +256,61 @@ impl TenthsTally {
     }
 }
 
+/// Overhangs that both sides returned, against the rule over the unrounded load and against the
+/// slope's own load.
+#[derive(Default)]
+pub struct EaveTally {
+    /// As by the slope's own load, and above that, by the slope's number.
+    own: [u64; 2],
+    raised: [u64; 2],
+    /// Below that.
+    lowered: u64,
+    /// The farthest above the rule, in millionths of a N/m.
+    farthest: u64,
+    /// Below the rule, or too far above it.
+    off: u64,
+}
+
+impl EaveTally {
+    /// Counts an overhang; whether it is as it must be.
+    fn count(&mut self, eave: &Eave) -> bool {
+        let side = usize::from(eave.slope == 2);
+        match eave.force.cmp(&eave.own) {
+            Ordering::Less => self.lowered += 1,
+            Ordering::Equal => self.own[side] += 1,
+            Ordering::Greater => self.raised[side] += 1,
+        }
+        let distance = eave.distance.unwrap_or(u64::MAX);
+        let is_near = distance < EAVE_DISTANCE;
+        if is_near {
+            self.farthest = self.farthest.max(distance);
+        } else {
+            self.off += 1;
+        }
+        eave.own <= eave.force && is_near
+    }
+
+    fn is_good(&self) -> bool {
+        let met = self.own.iter().chain(&self.raised).all(|&count| count > 0);
+        met && self.lowered == 0 && self.off == 0
+    }
+
+    fn print(&self) {
+        let [left, right] = self.own;
+        let all = left + right + self.raised.iter().sum::<u64>() + self.lowered;
+        println!(
+            "EAVES {all} overhangs: as by the slope's own load {left} and {right} by its number"
+        );
+        let [left, right] = self.raised;
+        println!("  above that {left} and {right}, below it {}", self.lowered);
+        println!(
+            "  above the rule at most {:.3} N/m, below it or 10 above {}",
+            (self.farthest / 1_000) as f64 / 1_000.0,
+            self.off
+        );
+    }
+}
+
 impl Tally {
     pub fn new() -> Self {
         Self {
@@ -268,6 +329,7 @@ impl Tally {
             drifts: DriftTally::default(),
             pairs: PairTally::default(),
             tenths: TenthsTally::default(),
+            eaves: EaveTally::default(),
             disagreements: 0,
         }
     }
@@ -309,6 +371,13 @@ impl Tally {
         }
     }
 
+    /// Counts an overhang that both sides returned, in the same way.
+    pub fn eave(&mut self, sheet: &[u8], eave: &Eave, describe: impl Fn() -> String) {
+        if !self.eaves.count(eave) {
+            self.disagree(sheet, || format!("{}: {eave:?}", describe()));
+        }
+    }
+
     /// Counts a disagreement. The first few are printed at once, lest a crash hide them.
     pub fn disagree(&mut self, sheet: &[u8], describe: impl FnOnce() -> String) {
         self.disagreements += 1;
@@ -327,7 +396,8 @@ impl Tally {
     }
 
     /// No disagreement, and every refusal, every slice length, every missing index, every place of
-    /// the map, every situation, every valley, every number of a pair and every drop was met.
+    /// the map, every situation, every valley, every number of a pair, every drop and, at either
+    /// eave, an overhang by the other slope's load was met.
     pub fn is_good(&self) -> bool {
         self.agrees()
             && self.refused[1..].iter().all(|&count| count > 0)
@@ -340,6 +410,7 @@ impl Tally {
             && self.drifts.is_good()
             && self.pairs.is_good()
             && self.tenths.is_good()
+            && self.eaves.is_good()
     }
 
     pub fn print(&self) {
@@ -370,6 +441,7 @@ impl Tally {
         self.drifts.print();
         self.pairs.print();
         self.tenths.print();
+        self.eaves.print();
         self.print_lengths();
         self.print_missing();
         println!("DISAGREEMENTS {}", self.disagreements);

@@ -35,7 +35,7 @@ module _ (s : Site) (shape : Shape) (item : ℕ) where
   slope-short : (slope : ℕ) → length (slopeRows s shape item slope) ≤ 88
   unfolding slopeRows
   slope-short slope =
-      let eave = overhangAt s (slopeAt shape slope) in
+      let eave = overhangAt s shape slope in
       let guard = guardAt s (slopeAt shape slope) in
       omega (
         arith,

@@ -14,7 +14,7 @@ forceRow item code slope (refused number) = []
 
 unfoldable pub slopeRows : Site → Shape → ℕ → ℕ → List ℕ
 slopeRows s shape item slope =
-    forceRow item 21 slope (overhangAt s (slopeAt shape slope)) ++ forceRow item 22 slope (guardAt s (slopeAt shape slope))
+    forceRow item 21 slope (overhangAt s shape slope) ++ forceRow item 22 slope (guardAt s (slopeAt shape slope))
 
 -- "per slope (1 left or only, 2 right)"
 unfoldable pub forceRows : Site → Shape → ℕ → List ℕ

@@ -2,15 +2,16 @@
 ghost use mathlib.Core.Path.{_≡_};
 ghost use Prim.Native.Nat.{_≤_};
 ghost use Rattle.figures.specs.SiteRules.{siteRefusal};
-ghost use Rattle.local_forces.specs.Answers.{forceMeans, AcceptedShape};
-ghost use Rattle.standard.specs.Forces.{slopeAt, overhangForce, overhangAt, overhangAnswer, overhangDistance};
+ghost use Rattle.local_forces.specs.Answers.{forceMeans};
+ghost use Rattle.slope_loads.specs.Slopes.{AcceptedShape};
+ghost use Rattle.standard.specs.Forces.{slopeAt, largerUnrounded, overhangForce, overhangAt, overhangAnswer, overhangDistance};
 use crate::answers::LocalForce;
-use crate::slopes::RoofSlope;
-use crate::slopes::slope_of;
-use crate::slopes::whole_load;
 use figures::Roof;
 use figures::Shape;
 use figures::Site;
+use slope_loads::RoofSlope;
+use slope_loads::larger_load;
+use slope_loads::slope_of;
 
 // Overhangs count above this altitude, in m.
 const OVERHANGS_ABOVE: u16 = 800;
@@ -25,24 +26,24 @@ fn overhang_of(s: u64) -> u64
     rounding::least(limit, force)
 }
 
-// The overhang at the eave of a slope of accepted figures.
+// The overhang at the eave of a slope of accepted figures. Either eave of a pitched roof has that of the larger S.
 pub fn overhang_at(site: Site, shape: Shape, slope: u8) -> LocalForce
     requires { ⌜ (siteRefusal site ≡ 0) × AcceptedShape shape ⌝ }
-    ensures { λ r. ⌜ forceMeans r ≡ overhangAt site (slopeAt shape slope) ⌝ }
+    ensures { λ r. ⌜ forceMeans r ≡ overhangAt site shape slope ⌝ }
 {
-    let RoofSlope::Found { slope: side, guard } = slope_of(shape, slope) else {
+    let RoofSlope::Found { .. } = slope_of(shape, slope) else {
         return LocalForce::NoForce;
     };
     if site.altitude <= OVERHANGS_ABOVE {
         return LocalForce::NoForce;
     }
-    LocalForce::Newtons(overhang_of(whole_load(site, side, guard)) as u32)
+    LocalForce::Newtons(overhang_of(larger_load(site, shape)) as u32)
 }
 
 // The overhang at the eave of a slope.
 pub fn overhang(site: Site, roof: Roof, slope: u8) -> LocalForce
     ensures answer { λ r. ⌜ forceMeans r ≡ overhangAnswer site roof slope ⌝ }
-    ensures distance { λ r. ⌜ overhangDistance (forceMeans r) site (slopeAt (roof .shape) slope) ⌝ }
+    ensures distance { λ r. ⌜ overhangDistance (forceMeans r) (largerUnrounded site (roof .shape)) (slopeAt (roof .shape) slope) ⌝ }
 {
     let number = roof_rules::refusal(site, roof);
     if number != 0 {

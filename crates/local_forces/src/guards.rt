@@ -3,18 +3,19 @@ ghost use mathlib.Core.Path.{_≡_};
 ghost use Prim.Native.Nat.{_≤_};
 ghost use Rattle.figures.specs.Bounds.{SlopeIn};
 ghost use Rattle.figures.specs.SiteRules.{siteRefusal};
-ghost use Rattle.local_forces.specs.Answers.{forceMeans, AcceptedShape};
+ghost use Rattle.local_forces.specs.Answers.{forceMeans};
 ghost use Rattle.rounding.specs.Up.{ceilDiv};
+ghost use Rattle.slope_loads.specs.Slopes.{AcceptedShape};
 ghost use Rattle.standard.specs.Forces.{slopeAt, guardForce, guardAt, guardAnswer, guardDistance};
 use crate::answers::LocalForce;
-use crate::slopes::RoofSlope;
-use crate::slopes::slope_of;
-use crate::slopes::whole_load;
 use figures::Roof;
 use figures::Shape;
 use figures::Site;
 use figures::Slope;
 use sines::sine;
+use slope_loads::RoofSlope;
+use slope_loads::slope_of;
+use slope_loads::whole_load;
 
 // A count of billionths, rounded up to a whole number.
 fn whole_number(billionths: u64) -> u64

@@ -2,7 +2,6 @@
 mod answers;
 mod eaves;
 mod guards;
-mod slopes;
 
 pub use answers::LocalForce;
 pub use eaves::overhang;

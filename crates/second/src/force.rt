@@ -1,4 +1,4 @@
-// Local forces, over the whole load S of a slope.
+// Local forces, over the whole load S of a slope or the larger of two.
 ghost use Prim.Native.Nat.{_≤_};
 use super::roof::segment_at;
 use figures::Roof;
@@ -62,6 +62,17 @@ fn slope_load(site: Site, roof: Roof, number: u8) -> u32 {
     load_on(ground_of(site, 1), segment, segment.start, WHOLE)
 }
 
+// By A5 an eave has the larger of the two slopes' S; a roof of one slope has its own.
+fn eave_load(site: Site, roof: Roof) -> u32 {
+    let shape = roof.shape;
+    let first = slope_load(site, roof, 1);
+    if !has_slope(shape, 2) {
+        return first;
+    }
+    let second = slope_load(site, roof, 2);
+    if first < second { second } else { first }
+}
+
 // The smaller of 3S and S³/3,000,000, rounded up.
 fn overhang_of(s: u32) -> u32 {
     let cube = least(times(times(whole(s), s), s), whole(3_000_000));
@@ -73,7 +84,7 @@ fn overhang_of(s: u32) -> u32 {
 pub fn overhang(site: Site, roof: Roof, number: u8) -> u32 {
     let shape = roof.shape;
     if has_slope(shape, number) & (800 < site.altitude) {
-        overhang_of(slope_load(site, roof, number))
+        overhang_of(eave_load(site, roof))
     } else {
         NO_FORCE
     }

@@ -1,7 +1,7 @@
 -- What is owed on the local forces: their distance from the rules over the unrounded S and the sine's reference.
 use Prim.Native.Nat.{ℕ, _+_, _-_, _*_, _≤_, _<_, min}
 use mathlib.Core.Path.{_≡_, refl, sym, subst, _∙_}
-use mathlib.Core.Bool.{Bool, true, false, cond}
+use mathlib.Core.Bool.{Bool, true, false, cond, _&&_}
 use mathlib.Core.List.{List}
 use borrow.Author.Tests.{eqb-true}
 use lib.Dec.{ltb, eqb}
@@ -20,16 +20,19 @@ use Rattle.figures.specs.declared.roof.Shape.the-variants.{Monopitch, Pitched, 
 use Rattle.figures.specs.declared.roof.Roof.{Roof}
 use Rattle.figures.proofs.Accepted.{site-in, shape-in}
 use Rattle.figures.proofs.Laws.{none-broken}
-use Rattle.rounding.specs.Fraction.{Fraction, over, sum, AtMost, Under, Below, Same, Close}
+use Rattle.rounding.specs.Fraction.{Fraction, over, sum, AtMost, Under, UnderParts, Below, Same, Near}
 use Rattle.rounding.specs.Load.{alone, exact, breakLoad}
+use Rattle.rounding.specs.Limit.{smaller, larger}
 use Rattle.rounding.specs.Up.{ceilDiv, roundedUp}
 use Rattle.rounding.proofs.Rounding.{reaches, near, least, whole, close-whole, up-close, up-least, up-whole}
+use Rattle.rounding.proofs.Distance.{near-nothing, near-larger}
 use Rattle.rounding.proofs.Ramps.{break-alone}
 use Rattle.rounding.proofs.Limited.{smaller-is, smaller-mono, smaller-positive}
 use Rattle.standard.specs.Arrangements.{factorOf}
 use Rattle.standard.specs.Codes.{forcesIn}
 use Rattle.standard.specs.Coefficients.{mu1, guarded, slopeMu}
-use Rattle.standard.specs.Forces.{SlopeAt, noSlope, someSlope, slopeAt, slopeLoad, wholeLoad, force, none, refused}
+use Rattle.standard.specs.Forces.{SlopeAt, noSlope, someSlope, slopeAt, present, slopeLoad, wholeLoad, force, none, refused}
+use Rattle.standard.specs.Forces.{unroundedAt, wholeAt, largerUnrounded, largerWhole}
 use Rattle.standard.specs.Forces.{OverhangNear, overhangRule, overhangForce, overhangAt, overhangAnswer, overhangDistance}
 use Rattle.standard.specs.Forces.{GuardNear, guardRule, guardForce, guardAt, guardAnswer, guardDistance}
 use Rattle.standard.specs.Sine.{sineReference, sineEntry}
@@ -85,7 +88,7 @@ side-in roof n slope guard hr e =
     subst (λ (s : SlopeAt). sides (kindOf (roof .shape)) s) e (shape-sides (roof .shape) (roof .spans) n (shape-in (roof .shape) (roof .spans) hr)) .0
 
 -- S is at most 24,000: μ1 at most 0.8, Ce at most 1.2, Ct at most 1, sk at most 25,000
-mu-most : (slope : Slope) (guard : ℕ) → guard ≤ 1 → 375 * slopeMu slope guard .num ≤ 300 * slopeMu slope guard .den
+pub mu-most : (slope : Slope) (guard : ℕ) → guard ≤ 1 → 375 * slopeMu slope guard .num ≤ 300 * slopeMu slope guard .den
 unfolding slopeNum mu1Num Same
 mu-most slope guard h =
     let top : slopeNum (slope .pitch) guard ≤ 300 = omega arith in
@@ -106,6 +109,39 @@ pub whole-801 :
 unfolding wholeLoad slopeLoad factorOf guarded mu1 load breakLoad roundedUp ceilDiv
 whole-801 = refl
 
+-- At 801 m under 1,250 N/m² 0° and 45.0° have S 1,000 and 500. Either eave has the overhang of 1,000, whichever slope is left; a third
+-- slope has none. A guard keeps S at 1,000 on 45.0° beside a bare slope: its force is 1,000 × 1 m × 0.707107.
+abbrev mountain : Site
+mountain = record { sk = 1250; ce = 100; ct = 100; cesl = 100; situation = 0; altitude = 801 }
+
+abbrev flatSteep : Shape
+flatSteep = Pitched (record { pitch = 0; width = 1 }) (record { pitch = 450; width = 1 }) 0 0
+
+abbrev steepFlat : Shape
+steepFlat = Pitched (record { pitch = 450; width = 1 }) (record { pitch = 0; width = 1 }) 0 0
+
+abbrev bareGuarded : Shape
+bareGuarded = Pitched (record { pitch = 600; width = 1000 }) (record { pitch = 450; width = 1000 }) 0 1
+
+pub forces-worked :
+    (wholeAt mountain (slopeAt flatSteep 1) ≡ 1000)
+    × (wholeAt mountain (slopeAt flatSteep 2) ≡ 500)
+    × Same (largerUnrounded mountain flatSteep) (over 1000 1)
+    × Same (largerUnrounded mountain steepFlat) (over 1000 1)
+    × (overhangAt mountain flatSteep 1 ≡ force 334)
+    × (overhangAt mountain flatSteep 2 ≡ force 334)
+    × (overhangAt mountain steepFlat 1 ≡ force 334)
+    × (overhangAt mountain steepFlat 2 ≡ force 334)
+    × (overhangAt mountain steepFlat 3 ≡ none)
+    × (wholeAt mountain (slopeAt bareGuarded 1) ≡ 0)
+    × (guardAt mountain (slopeAt bareGuarded 1) ≡ none)
+    × (guardAt mountain (slopeAt bareGuarded 2) ≡ force 708)
+    × (overhangAt mountain bareGuarded 1 ≡ force 334)
+    × (overhangAt mountain bareGuarded 2 ≡ force 334)
+unfolding overhangAt overhangForce overhangRule guardAt guardForce guardRule smaller larger largerWhole largerUnrounded unroundedAt wholeAt slopeAt
+    wholeLoad slopeLoad factorOf guarded mu1 load breakLoad exact sum roundedUp ceilDiv sineEntry sineReference Same
+forces-worked = (refl, refl, refl, refl, refl, refl, refl, refl, refl, refl, refl, refl, refl, refl)
+
 alone-most : (m : ℕ) (f : Fraction) → 0 < f .den → f .num ≤ m * f .den → breakLoad 1 (alone f) ≤ m
 alone-most m f h p = rw (break-alone 1 f) (up-least 1 m f h (omega arith))
 
@@ -116,18 +152,26 @@ whole-most site slope guard h g =
     (load-most _ _ _ _ (mu-most slope guard g) (factor-most site h) (h .sk .high))
 
 -- S is the exact load rounded up, so less than 1 above it.
-alone-close : (f : Fraction) → 0 < f .den → Close 1 1 (breakLoad 1 (alone f)) (exact (alone f))
-unfolding exact sum
-alone-close f h = rw (break-alone 1 f) (record { low = omega (arith, up-close 1 f h .low); high = omega (arith, up-close 1 f h .high) })
+alone-near : (f : Fraction) → 0 < f .den → Near 1 1 (breakLoad 1 (alone f)) (exact (alone f))
+unfolding exact sum AtMost UnderParts
+alone-near f h =
+    let c = up-close 1 f h in
+    rw (break-alone 1 f) (record { positive = omega arith; low = omega (arith, c .low); high = omega (arith, c .high) })
 
-module _ (site : Site) (slope : Slope) (guard : ℕ) where
-  slope-load-positive : 0 < exact (slopeLoad site slope guard) .den
-  unfolding exact sum slopeLoad
-  slope-load-positive = omega (arith, load-positive (slopeMu slope guard) (factorOf site 1) (site .sk) (slope-mu-positive slope guard))
-
-  whole-close : Close 1 1 (wholeLoad site slope guard) (exact (slopeLoad site slope guard))
+module _ (site : Site) where
+  pub whole-near : (slope : Slope) (guard : ℕ) → Near 1 1 (wholeLoad site slope guard) (exact (slopeLoad site slope guard))
   unfolding wholeLoad slopeLoad
-  whole-close = alone-close _ (load-positive (slopeMu slope guard) (factorOf site 1) (site .sk) (slope-mu-positive slope guard))
+  whole-near slope guard = alone-near _ (load-positive (slopeMu slope guard) (factorOf site 1) (site .sk) (slope-mu-positive slope guard))
+
+  at-near : (at : SlopeAt) → Near 1 1 (wholeAt site at) (unroundedAt site at)
+  unfolding wholeAt unroundedAt
+  at-near noSlope = near-nothing 1 1 (omega arith)
+  at-near (someSlope slope guard) = whole-near slope guard
+
+  -- The larger whole S is so above the larger unrounded S.
+  pub larger-near : (shape : Shape) → Near 1 1 (largerWhole site shape) (largerUnrounded site shape)
+  unfolding largerWhole largerUnrounded
+  larger-near shape = near-larger 1 1 _ _ _ _ (at-near (slopeAt shape 1)) (at-near (slopeAt shape 2))
 
 -- "S is the slope's code 1 load": what is returned for the slope in that code is S, in whatever parts it is worked.
 pub returned-is-whole :
@@ -203,13 +247,21 @@ limit f = over (3 * f .num) (f .den)
 abbrev cubed : Fraction → Fraction
 cubed f = over (f .num * f .num * f .num) (3000000 * (f .den * f .den * f .den))
 
-module _ (x : Fraction) (s : ℕ) (h : 0 < x .den) (c : Close 1 1 s x) where
+module _ (x : Fraction) (s : ℕ) (c : Near 1 1 s x) where
+  s-low : x .num ≤ s * x .den
+  unfolding AtMost
+  s-low = c .low
+
+  s-high : s * x .den < x .num + x .den
+  unfolding UnderParts
+  s-high = omega (arith, c .high)
+
   cubed-positive : 0 < cubed x .den
-  cubed-positive = omega (arith, mul-pos (mul-pos h h) h)
+  cubed-positive = omega (arith, mul-pos (mul-pos (c .positive) (c .positive)) (c .positive))
 
   rule-positive : 0 < overhangRule x .den
   unfolding overhangRule
-  rule-positive = smaller-positive (limit x) (cubed x) h cubed-positive
+  rule-positive = smaller-positive (limit x) (cubed x) (c .positive) cubed-positive
 
   whole-rule-positive : 0 < overhangRule (over s 1) .den
   unfolding overhangRule
@@ -219,9 +271,9 @@ module _ (x : Fraction) (s : ℕ) (h : 0 < x .den) (c : Close 1 1 s x) where
   unfolding overhangRule Below
   rule-rises =
       smaller-mono (limit x) (cubed x) (limit (over s 1)) (cubed (over s 1))
-      (omega (arith, c .low))
-      (omega (arith, mul-le-mul (mul-le-mul (c .low) (c .low)) (c .low)))
-      h cubed-positive
+      (omega (arith, s-low))
+      (omega (arith, mul-le-mul (mul-le-mul s-low s-low) s-low))
+      (c .positive) cubed-positive
 
   overhang-low : AtMost (overhangRule x) (overhangForce s)
   unfolding overhangForce
@@ -235,11 +287,12 @@ module _ (x : Fraction) (s : ℕ) (h : 0 < x .den) (c : Close 1 1 s x) where
       let r = overhangForce s in
       let m : r ≤ 3 * s = omega (arith, overhang-is s) in
       let k : r * 3000000 < s * s * s + 3000000 = omega (arith, overhang-is s, near (s * s * s) 3000000 (omega arith)) in
-      let low : x .num ≤ s * x .den = omega (arith, c .low) in
-      let high : s * x .den < x .num + x .den = omega (arith, c .high) in
       smaller-is (λ f. r * f .den < f .num + 10 * f .den) (limit x) (cubed x)
-      (λ p. limit-near (x .num) (x .den) s r low high m)
-      (λ p. cube-near (x .num) (x .den) s r low high h k m)
+      (λ p. limit-near (x .num) (x .den) s r s-low s-high m)
+      (λ p. cube-near (x .num) (x .den) s r s-low s-high (c .positive) k m)
+
+  pub overhang-distance : OverhangNear (overhangForce s) (overhangRule x)
+  overhang-distance = record { positive = rule-positive; low = overhang-low; high = overhang-high }
 
 -- Over the unrounded n / d and the reference N / D, with S above n / d and e millionths for N / D.
 module _ (n d s w e N D r : ℕ) (hd : 0 < d) (hD : 0 < D) (hs : s ≤ 24000) (hw : w ≤ 100000) where
@@ -277,9 +330,10 @@ module _ (s width pitch : ℕ) where
         rw guard-is
         (least (s * width * sineEntry pitch) 1000000000 2400000 (omega arith) (mul-le-mul (mul-le-mul hs hw) (sine-most pitch hp)))
 
-    guard-near : (x : Fraction) → 0 < x .den → Close 1 1 s x → GuardNear (guardForce s width pitch) width (guardRule x width (sineReference pitch))
+    guard-near : (x : Fraction) → Near 1 1 s x → GuardNear (guardForce s width pitch) width (guardRule x width (sineReference pitch))
     unfolding guardRule
-    guard-near x h c =
+    guard-near x c =
+        let h = c .positive in
         let b = sine-nearest pitch in
         let n = s * width * sineEntry pitch in
         let f = sineReference pitch in
@@ -289,20 +343,11 @@ module _ (s width pitch : ℕ) where
         let under : guardForce s width pitch * 1000000000 < n + 1000000000 = rw guard-is (near n 1000000000 (omega arith)) in
         record {
           positive = mul-pos (mul-pos h (omega arith)) (b .positive);
-          low = low (omega (arith, c .low)) (b .low) up;
-          high = high (omega (arith, c .high)) (sine-most pitch hp) (b .low) (b .high) under;
+          low = low (s-low x s c) (b .low) up;
+          high = high (s-high x s c) (sine-most pitch hp) (b .low) (b .high) under;
         }
 
--- the theorems: the overhang's holds of any figures, the guard's of accepted ones
-pub overhang-distance :
-    (site : Site) (slope : Slope) (guard : ℕ)
-    → OverhangNear (overhangForce (wholeLoad site slope guard)) (overhangRule (exact (slopeLoad site slope guard)))
-overhang-distance site slope guard =
-    let x = exact (slopeLoad site slope guard) in
-    let h = slope-load-positive site slope guard in
-    let c = whole-close site slope guard in
-    record { positive = rule-positive x _ h c; low = overhang-low x _ h c; high = overhang-high x _ h c }
-
+-- the theorem on the guard force, of accepted figures
 module _ (site : Site) (roof : Roof) (n : ℕ) (slope : Slope) (guard : ℕ)
     (hs : siteRefusal site ≡ 0) (hr : roofRefusal roof ≡ 0) (e : slopeAt (roof .shape) n ≡ someSlope slope guard) where
   pub guard-distance :
@@ -312,24 +357,27 @@ module _ (site : Site) (roof : Roof) (n : ℕ) (slope : Slope) (guard : ℕ)
       let side = side-in roof n slope guard hr e in
       guard-near (wholeLoad site slope guard) (slope .width) (slope .pitch)
       (whole-most site slope guard (site-in site hs) (side .guard)) (side .slope .width .high) (side .slope .pitch)
-      (exact (slopeLoad site slope guard)) (slope-load-positive site slope guard) (whole-close site slope guard)
+      (exact (slopeLoad site slope guard)) (whole-near site slope guard)
 
 -- the same of what the calls answer
 module _ (site : Site) (roof : Roof) (n : ℕ) where
-  pub overhang-answers : overhangDistance (overhangAnswer site roof n) site (slopeAt (roof .shape) n)
+  -- from any unrounded S that the whole S of the roof is near
+  pub answers-from :
+      (s : Fraction) → Near 1 1 (largerWhole site (roof .shape)) s → overhangDistance (overhangAnswer site roof n) s (slopeAt (roof .shape) n)
   unfolding overhangAnswer overhangAt
-  overhang-answers = go (eqb (figuresRefusal site roof) 0) (slopeAt (roof .shape) n)
+  answers-from s c = go (eqb (figuresRefusal site roof) 0) (slopeAt (roof .shape) n) (ltb 800 (site .altitude))
     where
-      above :
-          (b : Bool) (slope : Slope) (guard : ℕ)
-          → overhangDistance (cond b (force (overhangForce (wholeLoad site slope guard))) none) site (someSlope slope guard)
-      above true slope guard = overhang-distance site slope guard
-      above false slope guard = tt
+      go :
+          (a : Bool) (at : SlopeAt) (b : Bool)
+          → overhangDistance (cond a (cond (present at && b) (force (overhangForce (largerWhole site (roof .shape)))) none)
+          (refused (figuresRefusal site roof))) s at
+      go true (someSlope slope guard) true = overhang-distance s (largerWhole site (roof .shape)) c
+      go true (someSlope slope guard) false = tt
+      go true noSlope b = tt
+      go false at b = tt
 
-      go : (b : Bool) (at : SlopeAt) → overhangDistance (cond b (overhangAt site at) (refused (figuresRefusal site roof))) site at
-      go true noSlope = tt
-      go true (someSlope slope guard) = above (ltb 800 (site .altitude)) slope guard
-      go false at = tt
+  pub overhang-answers : overhangDistance (overhangAnswer site roof n) (largerUnrounded site (roof .shape)) (slopeAt (roof .shape) n)
+  overhang-answers = answers-from (largerUnrounded site (roof .shape)) (larger-near site (roof .shape))
 
   pub guard-answers : guardDistance (guardAnswer site roof n) site (slopeAt (roof .shape) n)
   unfolding guardAnswer guardAt

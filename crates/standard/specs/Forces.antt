@@ -1,6 +1,6 @@
 -- Local forces, kinds 2 and 3, persistent, in N/m: the overhang at an eave and the force at a guard.
-use Prim.Native.Nat.{ℕ, _+_, _*_, _<_}
-use mathlib.Core.Bool.{cond}
+use Prim.Native.Nat.{ℕ, _+_, _*_, _<_, max}
+use mathlib.Core.Bool.{Bool, true, false, cond, _&&_}
 use lib.Dec.{ltb, eqb}
 use Rattle.figures.specs.Refusals.{figuresRefusal}
 use Rattle.figures.specs.declared.site.Site.{Site}
@@ -9,7 +9,7 @@ use Rattle.figures.specs.declared.roof.Shape.{Shape}
 use Rattle.figures.specs.declared.roof.Shape.the-variants.{Monopitch, Pitched, MultiSpan, Cylindrical, Abutting, Projection}
 use Rattle.figures.specs.declared.roof.Roof.{Roof}
 use Rattle.rounding.specs.Fraction.{Fraction, over, AtMost, Under}
-use Rattle.rounding.specs.Limit.{smaller}
+use Rattle.rounding.specs.Limit.{smaller, larger}
 use Rattle.rounding.specs.Load.{Load, exact, breakLoad}
 use Rattle.rounding.specs.Up.{roundedUp}
 use Rattle.standard.specs.Arrangements.{factorOf}
@@ -38,6 +38,23 @@ slopeLoad site slope guard = loadAlone (slopeMu slope guard) (factorOf site 1) (
 unfoldable pub wholeLoad : Site → Slope → ℕ → ℕ
 wholeLoad site slope guard = breakLoad 1 (slopeLoad site slope guard)
 
+-- the same at a slope by its number, unrounded and whole: a slope that isn't there carries nothing
+unfoldable pub unroundedAt : Site → SlopeAt → Fraction
+unroundedAt site noSlope = over 0 1
+unroundedAt site (someSlope slope guard) = exact (slopeLoad site slope guard)
+
+unfoldable pub wholeAt : Site → SlopeAt → ℕ
+wholeAt site noSlope = 0
+wholeAt site (someSlope slope guard) = wholeLoad site slope guard
+
+-- 6.3: "s is the most onerous undrifted load for the roof", the larger of the two slopes' S (document 02, A5): unrounded, from which
+-- "the distance of 10 N/m still applies", and whole; kind 2 has slope 1 alone
+unfoldable pub largerUnrounded : Site → Shape → Fraction
+largerUnrounded site shape = larger (unroundedAt site (slopeAt shape 1)) (unroundedAt site (slopeAt shape 2))
+
+unfoldable pub largerWhole : Site → Shape → ℕ
+largerWhole site shape = max (wholeAt site (slopeAt shape 1)) (wholeAt site (slopeAt shape 2))
+
 -- 6.3 (6.4) with γ = 3 kN/m³, k = 3/d limited by dγ, d = S/γ: the smaller of 3S and S³/3,000,000
 unfoldable pub overhangRule : Fraction → Fraction
 overhangRule s = smaller (over (3 * s .num) (s .den)) (over (s .num * s .num * s .num) (3000000 * (s .den * s .den * s .den)))
@@ -60,16 +77,21 @@ pub data Force : Type 0 where
   none : Force
   refused : ℕ → Force
 
--- above 800 m, at a slope that the roof has
-unfoldable pub overhangAt : Site → SlopeAt → Force
-overhangAt site noSlope = none
-overhangAt site (someSlope slope guard) = cond (ltb 800 (site .altitude)) (force (overhangForce (wholeLoad site slope guard))) none
+-- whether the roof has the slope
+abbrev pub present : SlopeAt → Bool
+present noSlope = false
+present (someSlope slope guard) = true
+
+-- above 800 m, at a slope that the roof has; "On kind 3 the overhang at either eave now uses the larger of the two slopes' S"
+unfoldable pub overhangAt : Site → Shape → ℕ → Force
+overhangAt site shape n =
+    cond (present (slopeAt shape n) && ltb 800 (site .altitude)) (force (overhangForce (largerWhole site shape))) none
 
 unfoldable pub overhangAnswer : Site → Roof → ℕ → Force
 overhangAnswer site roof n =
-    cond (eqb (figuresRefusal site roof) 0) (overhangAt site (slopeAt (roof .shape) n)) (refused (figuresRefusal site roof))
+    cond (eqb (figuresRefusal site roof) 0) (overhangAt site (roof .shape) n) (refused (figuresRefusal site roof))
 
--- at a slope that the roof has and that has a guard
+-- "The guard force keeps its own slope's S": at a slope that the roof has and that has a guard
 unfoldable pub guardAt : Site → SlopeAt → Force
 guardAt site noSlope = none
 guardAt site (someSlope slope guard) =
@@ -85,12 +107,13 @@ pub record OverhangNear (r : ℕ) (f : Fraction) : Type 0 where
   pub low : AtMost f r
   pub high : Under r f 10
 
--- "never below the rule over the unrounded S and less than 10 above", of what is answered; there is no force at a slope that isn't there
-abbrev pub overhangDistance : Force → Site → SlopeAt → Type 0
-overhangDistance (force r) site (someSlope slope guard) = OverhangNear r (overhangRule (exact (slopeLoad site slope guard)))
-overhangDistance (force r) site noSlope = ⊥
-overhangDistance none site at = Unit
-overhangDistance (refused number) site at = Unit
+-- "never below the rule over the unrounded S and less than 10 above", of what is answered at a slope, over the unrounded S of its eave;
+-- there is no force at a slope that isn't there
+abbrev pub overhangDistance : Force → Fraction → SlopeAt → Type 0
+overhangDistance (force r) s (someSlope slope guard) = OverhangNear r (overhangRule s)
+overhangDistance (force r) s noSlope = ⊥
+overhangDistance none s at = Unit
+overhangDistance (refused number) s at = Unit
 
 -- r is less than 2 below f, and less than the width in metres plus 3 above it; the width is in mm
 pub record GuardNear (r width : ℕ) (f : Fraction) : Type 0 where

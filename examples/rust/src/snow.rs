@@ -101,7 +101,7 @@ pub fn load(sheet: &[u8], item: usize, code: u8, station: u32) -> Answer {
     unsafe { ffi::snow_load(sheet.as_ptr(), sheet.len(), item, code, station) }.into()
 }
 
-/// The overhang at the eave of a slope, in N/m.
+/// The overhang at the eave of a slope, in N/m; either eave of a pitched roof has that of the larger of its two loads.
 pub fn overhang(sheet: &[u8], item: usize, slope: u8) -> Answer {
     // SAFETY: a slice has the length given with it.
     unsafe { ffi::snow_overhang(sheet.as_ptr(), sheet.len(), item, slope) }.into()

@@ -1,5 +1,5 @@
 use mathlib.Core.Path.{sym, subst, _∙_}
-use Rattle.standard.specs.Forces.{Force, slopeAt, overhangDistance}
+use Rattle.standard.specs.Forces.{Force, slopeAt, largerUnrounded, overhangDistance}
 use Rattle.standard.proofs.Forces.{overhang-answers}
 use Rattle.figures.proofs.Laws.{none-broken}
 use Rattle.local_forces.proofs.Tests.{overhang-refused, overhang-accepted}
@@ -22,7 +22,8 @@ returns-2 : tie.Need-returns-2
 returns-2 c =
     let a = c .before .before .before .args in
     let e = c .overhang-at .ensures ∙ overhang-accepted (a .site) (a .roof) (a .slope) (sym (c .before .before .refusal .ensures) ∙ c .before .if1 .left) in
-    (e, subst (λ (f : Force). overhangDistance f (a .site) (slopeAt (a .roof .shape) (a .slope))) (sym e) (overhang-answers (a .site) (a .roof) (a .slope)))
+    let s = largerUnrounded (a .site) (a .roof .shape) in
+    (e, subst (λ (f : Force). overhangDistance f s (slopeAt (a .roof .shape) (a .slope))) (sym e) (overhang-answers (a .site) (a .roof) (a .slope)))
 
 pub overhang-spec : {M : Type 1} → statement M
 overhang-spec = tie.close (tie.spec refusal-requires returns overhang-at-requires returns-2)

@@ -1,4 +1,4 @@
-use Rattle.local_forces.specs.Answers.{slopeMeans}
+use Rattle.slope_loads.specs.Slopes.{slopeMeans}
 use Rattle.standard.proofs.Forces.{SideIn, side-in}
 use Rattle.figures.proofs.Accepted.{site-in}
 use Rattle.figures.specs.RoofRules.{roofOf}

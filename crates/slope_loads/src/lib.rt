@@ -1,9 +1,10 @@
-// A roof's slopes by their numbers, and the load S on one.
+// The slopes of a roof of kind 2 or 3 by their numbers, the load S on one, and the larger S of a roof.
 ghost use mathlib.Core.Path.{_≡_};
 ghost use Prim.Native.Nat.{_≤_};
 ghost use Rattle.figures.specs.Bounds.{SiteIn};
-ghost use Rattle.local_forces.specs.Answers.{slopeMeans};
-ghost use Rattle.standard.specs.Forces.{slopeAt, wholeLoad};
+ghost use Rattle.figures.specs.SiteRules.{siteRefusal};
+ghost use Rattle.slope_loads.specs.Slopes.{slopeMeans, AcceptedShape};
+ghost use Rattle.standard.specs.Forces.{slopeAt, wholeLoad, wholeAt, largerWhole};
 use figures::Shape;
 use figures::Site;
 use figures::Slope;
@@ -69,4 +70,25 @@ pub fn whole_load(site: Site, slope: Slope, guard: u8) -> u64
         site.sk as u64,
     );
     rounding::ceil_div(load, PARTS)
+}
+
+// S of a slope by its number, and 0 where the roof has none of that number.
+fn load_of(site: Site, shape: Shape, number: u8) -> u64
+    requires { ⌜ (siteRefusal site ≡ 0) × AcceptedShape shape ⌝ }
+    ensures { λ r. ⌜ (r ≡ wholeAt site (slopeAt shape number)) × (r ≤ 24000) ⌝ }
+{
+    let RoofSlope::Found { slope, guard } = slope_of(shape, number) else {
+        return 0;
+    };
+    whole_load(site, slope, guard)
+}
+
+// The larger S of a roof's slopes. A monopitch roof has slope 1 alone.
+pub fn larger_load(site: Site, shape: Shape) -> u64
+    requires { ⌜ (siteRefusal site ≡ 0) × AcceptedShape shape ⌝ }
+    ensures { λ r. ⌜ (r ≡ largerWhole site shape) × (r ≤ 24000) ⌝ }
+{
+    let left = load_of(site, shape, 1);
+    let right = load_of(site, shape, 2);
+    rounding::most(left, right)
 }

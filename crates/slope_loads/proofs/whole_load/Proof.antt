@@ -1,8 +1,8 @@
 use Rattle.standard.proofs.Forces.{whole-most}
-use Rattle.local_forces.proofs.Tests.{whole-is}
+use Rattle.slope_loads.proofs.Slopes.{whole-is}
 use borrow.Author.Needs.{needs}
-use Rattle.local_forces.proofs.slopes.whole_load.Statement.{statement}
-use Rattle.local_forces.proofs.slopes.whole_load.Tie as tie
+use Rattle.slope_loads.proofs.whole_load.Statement.{statement}
+use Rattle.slope_loads.proofs.whole_load.Tie as tie
 
 factor-requires : tie.Need-factor-requires
 factor-requires c κs = search needs

@@ -1,9 +1,9 @@
-use Rattle.local_forces.proofs.Tests.{only-slope, no-other, left-slope, right-slope, no-third}
+use Rattle.slope_loads.proofs.Slopes.{only-slope, no-other, left-slope, right-slope, no-third}
 use Rattle.standard.specs.Forces.{slopeAt}
 use native.Mathlib.Omega.{arith}
 use borrow.Author.Needs.{needs}
-use Rattle.local_forces.proofs.slopes.slope_of.Statement.{statement}
-use Rattle.local_forces.proofs.slopes.slope_of.Tie as tie
+use Rattle.slope_loads.proofs.slope_of.Statement.{statement}
+use Rattle.slope_loads.proofs.slope_of.Tie as tie
 
 enum-known-shape : tie.Need-enum-known-shape
 enum-known-shape c = search needs

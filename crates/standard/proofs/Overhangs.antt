@@ -1,0 +1,115 @@
+-- What document 02, A5 says of the overhang beside its distance: either eave has the same, none falls, kind 2 is unaffected; and a
+-- guarded slope has the larger S itself.
+use Prim.Native.Nat.{ℕ, _*_, _≤_, _<_, max}
+use mathlib.Core.Path.{_≡_, refl, ap, subst, _∙_}
+use mathlib.Core.Bool.{Bool, true, false, cond}
+use lib.Dec.{ltb, eqb}
+use native.Mathlib.Nat.{mul-le-mul, mul-le-mul-right}
+use native.Mathlib.Omega.{arith}
+use Rattle.figures.specs.RoofRules.{roofRefusal}
+use Rattle.figures.specs.declared.site.Site.{Site}
+use Rattle.figures.specs.declared.roof.Slope.{Slope}
+use Rattle.figures.specs.declared.roof.Shape.{Shape}
+use Rattle.figures.specs.declared.roof.Shape.the-variants.{Monopitch, Pitched, MultiSpan, Cylindrical, Abutting, Projection}
+use Rattle.figures.specs.declared.roof.Roof.{Roof}
+use Rattle.rounding.specs.Fraction.{Fraction, Below, Same}
+use Rattle.rounding.specs.Load.{exact, breakLoad}
+use Rattle.rounding.proofs.Rounding.{mono, up-mono}
+use Rattle.rounding.proofs.Ramps.{break-alone}
+use Rattle.standard.specs.Arrangements.{factorOf}
+use Rattle.standard.specs.Coefficients.{slopeMu}
+use Rattle.standard.specs.Numerators.{mu1Num, slopeNum}
+use Rattle.standard.specs.Stretch.{load, loadAlone}
+use Rattle.standard.specs.Forces.{SlopeAt, noSlope, someSlope, slopeAt, slopeLoad, wholeLoad, wholeAt, largerWhole, force, none}
+use Rattle.standard.specs.Forces.{overhangForce, overhangAt, overhangAnswer, overhangDistance}
+use Rattle.standard.proofs.Forces.{mu-most, overhang-is, side-in, whole-near, answers-from}
+use Rattle.standard.proofs.Loads.{load-positive}
+use Rattle.standard.proofs.Numerators.{slope-mu-positive, slope-mu-is}
+
+-- "at either eave"
+pub either-eave :
+    (site : Site) (left right : Slope) (leftGuard rightGuard : ℕ)
+    → overhangAt site (Pitched left right leftGuard rightGuard) 1 ≡ overhangAt site (Pitched left right leftGuard rightGuard) 2
+unfolding overhangAt slopeAt
+either-eave site left right leftGuard rightGuard = refl
+
+-- S at a slope is at most the larger S of its roof.
+module _ (site : Site) where
+  one-of : (a b : SlopeAt) (t : Bool) → wholeAt site (cond t a b) ≤ max (wholeAt site a) (wholeAt site b)
+  one-of a b true = omega arith
+  one-of a b false = omega arith
+
+  pub own-at-most : (shape : Shape) (n : ℕ) → wholeAt site (slopeAt shape n) ≤ largerWhole site shape
+  unfolding slopeAt largerWhole wholeAt
+  own-at-most (Monopitch slope guard) n = one-of (someSlope slope guard) noSlope (eqb n 1)
+  own-at-most (Pitched left right leftGuard rightGuard) n = by (eqb n 1) (eqb n 2)
+    where
+      by :
+          (s t : Bool)
+          → wholeAt site (cond s (someSlope left leftGuard) (cond t (someSlope right rightGuard) noSlope))
+          ≤ max (wholeLoad site left leftGuard) (wholeLoad site right rightGuard)
+      by true t = omega arith
+      by false true = omega arith
+      by false false = omega arith
+  own-at-most (MultiSpan count drifts) n = omega arith
+  own-at-most (Cylindrical rise span) n = omega arith
+  own-at-most (Abutting b1 b2 h slope guard) n = omega arith
+  own-at-most (Projection h left right) n = omega arith
+
+-- A larger S has no smaller overhang.
+pub overhang-rises : (s t : ℕ) → s ≤ t → overhangForce s ≤ overhangForce t
+overhang-rises s t h =
+    let c : s * s * s ≤ t * t * t = mul-le-mul (mul-le-mul h h) h in
+    omega (arith, overhang-is s, overhang-is t, mono (s * s * s) (t * t * t) 3000000 (omega arith) c)
+
+-- So no overhang is below the one from the slope's own S.
+pub no-lower : (site : Site) (shape : Shape) (n : ℕ) → overhangForce (wholeAt site (slopeAt shape n)) ≤ overhangForce (largerWhole site shape)
+no-lower site shape n = overhang-rises _ _ (own-at-most site shape n)
+
+-- "Kind 2 is unaffected": its overhang is that of its own S.
+module _ (site : Site) (slope : Slope) (guard : ℕ) where
+  monopitch-whole : largerWhole site (Monopitch slope guard) ≡ wholeLoad site slope guard
+  unfolding largerWhole slopeAt wholeAt
+  monopitch-whole = omega arith
+
+  pub monopitch-unaffected :
+      overhangAt site (Monopitch slope guard) 1 ≡ cond (ltb 800 (site .altitude)) (force (overhangForce (wholeLoad site slope guard))) none
+  unfolding overhangAt slopeAt
+  monopitch-unaffected = rw monopitch-whole refl
+
+  pub monopitch-answers :
+      (roof : Roof) (n : ℕ) → roof .shape ≡ Monopitch slope guard
+      → overhangDistance (overhangAnswer site roof n) (exact (slopeLoad site slope guard)) (slopeAt (roof .shape) n)
+  monopitch-answers roof n e = answers-from site roof n _ (rw (e, monopitch-whole) (whole-near site slope guard))
+
+-- "The guard force keeps its own slope's S". No slope has more than 0.8, which a guarded one has, so its S is the larger one.
+guarded-mu : (slope other : Slope) (guard : ℕ) → guard ≤ 1 → Below (slopeMu other guard) (slopeMu slope 1)
+unfolding Below Same slopeNum mu1Num
+guarded-mu slope other guard h =
+    let m = slopeMu other guard in
+    let g = slopeMu slope 1 in
+    let eight : g .num * 375 ≡ 300 * g .den = slope-mu-is slope 1 (omega arith) ∙ ap (λ (z : ℕ). z * g .den) (omega arith) in
+    omega (arith, mul-le-mul-right (g .den) (mu-most other guard h), ap (λ (z : ℕ). z * m .den) eight)
+
+mu-up :
+    (m n : Fraction) (factor sk : ℕ) → 0 < m .den → 0 < n .den → Below m n
+    → breakLoad 1 (loadAlone m factor sk) ≤ breakLoad 1 (loadAlone n factor sk)
+unfolding Below load
+mu-up m n factor sk hm hn h =
+    rw (break-alone 1 (load m factor sk), break-alone 1 (load n factor sk))
+    (up-mono 1 _ _ (load-positive m factor sk hm) (load-positive n factor sk hn) (omega (arith, mul-le-mul-right (factor * sk * 1000000) h)))
+
+module _ (site : Site) (roof : Roof) (n : ℕ) (slope : Slope)
+    (hr : roofRefusal roof ≡ 0) (e : slopeAt (roof .shape) n ≡ someSlope slope 1) where
+  other-at-most : (m : ℕ) (at : SlopeAt) → slopeAt (roof .shape) m ≡ at → wholeAt site at ≤ wholeLoad site slope 1
+  unfolding wholeAt wholeLoad slopeLoad
+  other-at-most m noSlope f = omega arith
+  other-at-most m (someSlope other guard) f =
+      mu-up (slopeMu other guard) (slopeMu slope 1) (factorOf site 1) (site .sk) (slope-mu-positive other guard) (slope-mu-positive slope 1)
+      (guarded-mu slope other guard (side-in roof m other guard hr f .guard))
+
+  pub guarded-is-larger : wholeLoad site slope 1 ≡ largerWhole site (roof .shape)
+  unfolding largerWhole wholeAt
+  guarded-is-larger =
+      let own = subst (λ (at : SlopeAt). wholeAt site at ≤ largerWhole site (roof .shape)) e (own-at-most site (roof .shape) n) in
+      omega (arith, own, other-at-most 1 _ refl, other-at-most 2 _ refl)
