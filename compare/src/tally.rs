@@ -194,6 +194,31 @@ impl PairTally {
     }
 }
 
+/// Distances above a rule that is not rounded, in millionths.
+#[derive(Default)]
+struct Distances {
+    farthest: u64,
+    /// Below the rule, or too far above it.
+    off: u64,
+}
+
+impl Distances {
+    /// Counts a distance, none where it lies below; whether it is less than the limit.
+    fn count(&mut self, distance: Option<u64>, limit: u64) -> bool {
+        let near = distance.filter(|&distance| distance < limit);
+        match near {
+            Some(distance) => self.farthest = self.farthest.max(distance),
+            None => self.off += 1,
+        }
+        near.is_some()
+    }
+
+    /// The farthest, cut after thousandths.
+    fn farthest(&self) -> f64 {
+        (self.farthest / 1_000) as f64 / 1_000.0
+    }
+}
+
 /// Loads that both sides returned, against parts in whole N/m² and against the exact rule.
 #[derive(Default)]
 pub struct TenthsTally {
@@ -205,10 +230,7 @@ pub struct TenthsTally {
     cut: [u64; 3],
     /// The largest drop.
     largest: i64,
-    /// The farthest above the exact rule, in millionths of a N/m².
-    farthest: u64,
-    /// Below the exact rule, or too far above it.
-    off: u64,
+    distances: Distances,
 }
 
 impl TenthsTally {
@@ -223,19 +245,12 @@ impl TenthsTally {
         } else {
             self.other += 1;
         }
-        let distance = returned.distance.unwrap_or(u64::MAX);
-        let is_near = distance < DISTANCE;
-        if is_near {
-            self.farthest = self.farthest.max(distance);
-        } else {
-            self.off += 1;
-        }
-        is_known && is_near
+        self.distances.count(returned.distance, DISTANCE) && is_known
     }
 
     fn is_good(&self) -> bool {
         let met = self.drops.iter().chain(&self.cut).all(|&count| count > 0);
-        met && self.other == 0 && self.off == 0
+        met && self.other == 0 && self.distances.off == 0
     }
 
     fn print(&self) {
@@ -250,8 +265,8 @@ impl TenthsTally {
         println!("  largest drop {}", self.largest);
         println!(
             "  above the exact rule at most {:.3} N/m², below it or 1.2 above {}",
-            (self.farthest / 1_000) as f64 / 1_000.0,
-            self.off
+            self.distances.farthest(),
+            self.distances.off
         );
     }
 }
@@ -265,10 +280,7 @@ pub struct EaveTally {
     raised: [u64; 2],
     /// Below that.
     lowered: u64,
-    /// The farthest above the rule, in millionths of a N/m.
-    farthest: u64,
-    /// Below the rule, or too far above it.
-    off: u64,
+    distances: Distances,
 }
 
 impl EaveTally {
@@ -280,19 +292,12 @@ impl EaveTally {
             Ordering::Equal => self.own[side] += 1,
             Ordering::Greater => self.raised[side] += 1,
         }
-        let distance = eave.distance.unwrap_or(u64::MAX);
-        let is_near = distance < EAVE_DISTANCE;
-        if is_near {
-            self.farthest = self.farthest.max(distance);
-        } else {
-            self.off += 1;
-        }
-        eave.own <= eave.force && is_near
+        self.distances.count(eave.distance, EAVE_DISTANCE) && eave.own <= eave.force
     }
 
     fn is_good(&self) -> bool {
         let met = self.own.iter().chain(&self.raised).all(|&count| count > 0);
-        met && self.lowered == 0 && self.off == 0
+        met && self.lowered == 0 && self.distances.off == 0
     }
 
     fn print(&self) {
@@ -305,8 +310,8 @@ impl EaveTally {
         println!("  above that {left} and {right}, below it {}", self.lowered);
         println!(
             "  above the rule at most {:.3} N/m, below it or 10 above {}",
-            (self.farthest / 1_000) as f64 / 1_000.0,
-            self.off
+            self.distances.farthest(),
+            self.distances.off
         );
     }
 }

@@ -1,16 +1,17 @@
 -- What document 02, A5 says of the overhang beside its distance: either eave has the same, none falls, kind 2 is unaffected; and a
 -- guarded slope has the larger S itself.
-use Prim.Native.Nat.{ℕ, _*_, _≤_, _<_, max}
+use Prim.Native.Nat.{ℕ, _*_, _≤_, _<_}
 use mathlib.Core.Path.{_≡_, refl, ap, subst, _∙_}
-use mathlib.Core.Bool.{Bool, true, false, cond}
-use lib.Dec.{ltb, eqb}
+use mathlib.Core.Bool.{cond}
+use lib.Dec.{ltb}
+use native.Mathlib.Decide.{decLe}
 use native.Mathlib.Nat.{mul-le-mul, mul-le-mul-right}
 use native.Mathlib.Omega.{arith}
 use Rattle.figures.specs.RoofRules.{roofRefusal}
 use Rattle.figures.specs.declared.site.Site.{Site}
 use Rattle.figures.specs.declared.roof.Slope.{Slope}
 use Rattle.figures.specs.declared.roof.Shape.{Shape}
-use Rattle.figures.specs.declared.roof.Shape.the-variants.{Monopitch, Pitched, MultiSpan, Cylindrical, Abutting, Projection}
+use Rattle.figures.specs.declared.roof.Shape.the-variants.{Monopitch, Pitched}
 use Rattle.figures.specs.declared.roof.Roof.{Roof}
 use Rattle.rounding.specs.Fraction.{Fraction, Below, Same}
 use Rattle.rounding.specs.Load.{exact, breakLoad}
@@ -33,28 +34,14 @@ pub either-eave :
 unfolding overhangAt slopeAt
 either-eave site left right leftGuard rightGuard = refl
 
--- S at a slope is at most the larger S of its roof.
-module _ (site : Site) where
-  one-of : (a b : SlopeAt) (t : Bool) → wholeAt site (cond t a b) ≤ max (wholeAt site a) (wholeAt site b)
-  one-of a b true = omega arith
-  one-of a b false = omega arith
-
-  pub own-at-most : (shape : Shape) (n : ℕ) → wholeAt site (slopeAt shape n) ≤ largerWhole site shape
-  unfolding slopeAt largerWhole wholeAt
-  own-at-most (Monopitch slope guard) n = one-of (someSlope slope guard) noSlope (eqb n 1)
-  own-at-most (Pitched left right leftGuard rightGuard) n = by (eqb n 1) (eqb n 2)
-    where
-      by :
-          (s t : Bool)
-          → wholeAt site (cond s (someSlope left leftGuard) (cond t (someSlope right rightGuard) noSlope))
-          ≤ max (wholeLoad site left leftGuard) (wholeLoad site right rightGuard)
-      by true t = omega arith
-      by false true = omega arith
-      by false false = omega arith
-  own-at-most (MultiSpan count drifts) n = omega arith
-  own-at-most (Cylindrical rise span) n = omega arith
-  own-at-most (Abutting b1 b2 h slope guard) n = omega arith
-  own-at-most (Projection h left right) n = omega arith
+-- S at slope 1 or 2 is at most the larger S of the roof.
+pub own-at-most : (site : Site) (shape : Shape) (n : ℕ) → 0 < n → n ≤ 2 → wholeAt site (slopeAt shape n) ≤ largerWhole site shape
+unfolding largerWhole
+own-at-most site shape n h k =
+    elim (decLe n 1) [
+      | yes p ↦ let e : n ≡ 1 = omega arith in rw e (omega arith)
+      | no p ↦ let e : n ≡ 2 = omega arith in rw e (omega arith)
+    ]
 
 -- A larger S has no smaller overhang.
 pub overhang-rises : (s t : ℕ) → s ≤ t → overhangForce s ≤ overhangForce t
@@ -63,8 +50,10 @@ overhang-rises s t h =
     omega (arith, overhang-is s, overhang-is t, mono (s * s * s) (t * t * t) 3000000 (omega arith) c)
 
 -- So no overhang is below the one from the slope's own S.
-pub no-lower : (site : Site) (shape : Shape) (n : ℕ) → overhangForce (wholeAt site (slopeAt shape n)) ≤ overhangForce (largerWhole site shape)
-no-lower site shape n = overhang-rises _ _ (own-at-most site shape n)
+pub no-lower :
+    (site : Site) (shape : Shape) (n : ℕ) → 0 < n → n ≤ 2
+    → overhangForce (wholeAt site (slopeAt shape n)) ≤ overhangForce (largerWhole site shape)
+no-lower site shape n h k = overhang-rises _ _ (own-at-most site shape n h k)
 
 -- "Kind 2 is unaffected": its overhang is that of its own S.
 module _ (site : Site) (slope : Slope) (guard : ℕ) where
@@ -100,7 +89,7 @@ mu-up m n factor sk hm hn h =
     (up-mono 1 _ _ (load-positive m factor sk hm) (load-positive n factor sk hn) (omega (arith, mul-le-mul-right (factor * sk * 1000000) h)))
 
 module _ (site : Site) (roof : Roof) (n : ℕ) (slope : Slope)
-    (hr : roofRefusal roof ≡ 0) (e : slopeAt (roof .shape) n ≡ someSlope slope 1) where
+    (h : 0 < n) (k : n ≤ 2) (hr : roofRefusal roof ≡ 0) (e : slopeAt (roof .shape) n ≡ someSlope slope 1) where
   other-at-most : (m : ℕ) (at : SlopeAt) → slopeAt (roof .shape) m ≡ at → wholeAt site at ≤ wholeLoad site slope 1
   unfolding wholeAt wholeLoad slopeLoad
   other-at-most m noSlope f = omega arith
@@ -111,5 +100,5 @@ module _ (site : Site) (roof : Roof) (n : ℕ) (slope : Slope)
   pub guarded-is-larger : wholeLoad site slope 1 ≡ largerWhole site (roof .shape)
   unfolding largerWhole wholeAt
   guarded-is-larger =
-      let own = subst (λ (at : SlopeAt). wholeAt site at ≤ largerWhole site (roof .shape)) e (own-at-most site (roof .shape) n) in
+      let own = subst (λ (at : SlopeAt). wholeAt site at ≤ largerWhole site (roof .shape)) e (own-at-most site (roof .shape) n h k) in
       omega (arith, own, other-at-most 1 _ refl, other-at-most 2 _ refl)

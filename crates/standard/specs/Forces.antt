@@ -47,8 +47,8 @@ unfoldable pub wholeAt : Site → SlopeAt → ℕ
 wholeAt site noSlope = 0
 wholeAt site (someSlope slope guard) = wholeLoad site slope guard
 
--- 6.3: "s is the most onerous undrifted load for the roof", the larger of the two slopes' S (document 02, A5): unrounded, from which
--- "the distance of 10 N/m still applies", and whole; kind 2 has slope 1 alone
+-- 6.3, document 02, A5: "s is the most onerous undrifted load for the roof", the larger of the two slopes' S, unrounded and whole; kind 2
+-- has slope 1 alone
 unfoldable pub largerUnrounded : Site → Shape → Fraction
 largerUnrounded site shape = larger (unroundedAt site (slopeAt shape 1)) (unroundedAt site (slopeAt shape 2))
 
@@ -107,8 +107,8 @@ pub record OverhangNear (r : ℕ) (f : Fraction) : Type 0 where
   pub low : AtMost f r
   pub high : Under r f 10
 
--- "never below the rule over the unrounded S and less than 10 above", of what is answered at a slope, over the unrounded S of its eave;
--- there is no force at a slope that isn't there
+-- "never below the rule over the unrounded S and less than 10 above", of what is answered at a slope; "The distance of 10 N/m still applies,
+-- from the larger unrounded S" (document 02, A5), which stands for s; there is no force at a slope that isn't there
 abbrev pub overhangDistance : Force → Fraction → SlopeAt → Type 0
 overhangDistance (force r) s (someSlope slope guard) = OverhangNear r (overhangRule s)
 overhangDistance (force r) s noSlope = ⊥
