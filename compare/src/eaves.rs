@@ -8,7 +8,7 @@ use crate::fuzz::Fuzz;
 
 /// Pitches of the other slope: the ends of the ranges of Table 5.2, those beside them, and between.
 const PITCHES: [u32; 10] = [0, 300, 301, 302, 450, 598, 599, 600, 601, 800];
-/// Overhangs are asked for above this altitude in m.
+/// The lowest altitude with overhangs in m.
 const HIGH: u32 = 801;
 
 /// An overhang that was returned and agreed on.

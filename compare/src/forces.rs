@@ -29,8 +29,8 @@ pub fn slopes(roof: &Roof) -> &[Slope] {
     }
 }
 
-/// Snow overhanging the eave of a slope in N/m. By A5 it hangs there with the largest S of all
-/// slopes, so both eaves of a roof have the same.
+/// Snow overhanging the eave of a slope in N/m. By A5 the slope that has the most decides for
+/// every eave of the roof.
 pub fn overhang(site: &Site, roof: &Roof, number: u8) -> Option<u32> {
     slope(roof, number)?;
     if site.altitude <= OVERHANG_FROM {
@@ -38,19 +38,15 @@ pub fn overhang(site: &Site, roof: &Roof, number: u8) -> Option<u32> {
     }
     slopes(roof)
         .iter()
-        .map(|slope| overhang_of(whole_load(site, *slope)))
+        .map(|slope| own_overhang(site, *slope))
         .max()
 }
 
-/// The smaller of 3S and S³/3,000,000, rounded up (6.4). It never falls as S rises.
-fn overhang_of(load: u32) -> u32 {
-    let load = u64::from(load);
-    (load * load * load).div_ceil(3 * MILLION).min(3 * load) as u32
-}
-
-/// The overhang that a slope would have by its own S, as before A5.
+/// The overhang by a slope's own S: the smaller of 3S and S³/3,000,000, rounded up (6.4). It never
+/// falls as S rises.
 pub fn own_overhang(site: &Site, slope: Slope) -> u32 {
-    overhang_of(whole_load(site, slope))
+    let load = u64::from(whole_load(site, slope));
+    (load * load * load).div_ceil(3 * MILLION).min(3 * load) as u32
 }
 
 /// How far an overhang lies above the rule over the largest S, which is not rounded here, in
