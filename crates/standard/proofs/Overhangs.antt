@@ -1,9 +1,9 @@
--- What document 02, A5 says of the overhang beside its distance: either eave has the same, none falls, kind 2 is unaffected; and a
--- guarded slope has the larger S itself.
-use Prim.Native.Nat.{ℕ, _*_, _≤_, _<_}
+-- What document 02, A5 says of the overhang beside its distance: on kind 3 either eave has that of the larger S, none falls, kind 2 is
+-- unaffected; and a guarded slope has the larger S itself.
+use Prim.Native.Nat.{ℕ, _*_, _≤_, _<_, max}
 use mathlib.Core.Path.{_≡_, refl, ap, subst, _∙_}
-use mathlib.Core.Bool.{cond}
-use lib.Dec.{ltb}
+use mathlib.Core.Bool.{Bool, true, false, cond, _&&_, _||_}
+use lib.Dec.{ltb, eqb}
 use native.Mathlib.Decide.{decLe}
 use native.Mathlib.Nat.{mul-le-mul, mul-le-mul-right}
 use native.Mathlib.Omega.{arith}
@@ -21,18 +21,26 @@ use Rattle.standard.specs.Arrangements.{factorOf}
 use Rattle.standard.specs.Coefficients.{slopeMu}
 use Rattle.standard.specs.Numerators.{mu1Num, slopeNum}
 use Rattle.standard.specs.Stretch.{load, loadAlone}
-use Rattle.standard.specs.Forces.{SlopeAt, noSlope, someSlope, slopeAt, slopeLoad, wholeLoad, wholeAt, largerWhole, force, none}
+use Rattle.standard.specs.Forces.{SlopeAt, noSlope, someSlope, slopeAt, present, slopeLoad, wholeLoad, wholeAt, largerWhole, force, none}
 use Rattle.standard.specs.Forces.{overhangForce, overhangAt, overhangAnswer, overhangDistance}
 use Rattle.standard.proofs.Forces.{mu-most, overhang-is, side-in, whole-near, answers-from}
 use Rattle.standard.proofs.Loads.{load-positive}
 use Rattle.standard.proofs.Numerators.{slope-mu-positive, slope-mu-is}
 
--- "at either eave"
-pub either-eave :
-    (site : Site) (left right : Slope) (leftGuard rightGuard : ℕ)
-    → overhangAt site (Pitched left right leftGuard rightGuard) 1 ≡ overhangAt site (Pitched left right leftGuard rightGuard) 2
-unfolding overhangAt slopeAt
-either-eave site left right leftGuard rightGuard = refl
+-- "On kind 3 the overhang at either eave now uses the larger of the two slopes' S": slopes 1 and 2 have it, no other has one.
+module _ (site : Site) (left right : Slope) (leftGuard rightGuard : ℕ) where
+  two-present : (a b : Bool) → present (cond a (someSlope left leftGuard) (cond b (someSlope right rightGuard) noSlope)) ≡ (a || b)
+  two-present true b = refl
+  two-present false true = refl
+  two-present false false = refl
+
+  pub pitched-eaves :
+      (n : ℕ)
+      → overhangAt site (Pitched left right leftGuard rightGuard) n
+      ≡ cond ((eqb n 1 || eqb n 2) && ltb 800 (site .altitude))
+      (force (overhangForce (max (wholeLoad site left leftGuard) (wholeLoad site right rightGuard)))) none
+  unfolding overhangAt largerWhole slopeAt wholeAt
+  pitched-eaves n = rw (two-present (eqb n 1) (eqb n 2))
 
 -- S at slope 1 or 2 is at most the larger S of the roof.
 pub own-at-most : (site : Site) (shape : Shape) (n : ℕ) → 0 < n → n ≤ 2 → wholeAt site (slopeAt shape n) ≤ largerWhole site shape
@@ -55,16 +63,22 @@ pub no-lower :
     → overhangForce (wholeAt site (slopeAt shape n)) ≤ overhangForce (largerWhole site shape)
 no-lower site shape n h k = overhang-rises _ _ (own-at-most site shape n h k)
 
--- "Kind 2 is unaffected": its overhang is that of its own S.
+-- "Kind 2 is unaffected": slope 1 has the overhang of its own S, no other has one.
 module _ (site : Site) (slope : Slope) (guard : ℕ) where
   monopitch-whole : largerWhole site (Monopitch slope guard) ≡ wholeLoad site slope guard
   unfolding largerWhole slopeAt wholeAt
   monopitch-whole = omega arith
 
+  one-present : (a : Bool) → present (cond a (someSlope slope guard) noSlope) ≡ a
+  one-present true = refl
+  one-present false = refl
+
   pub monopitch-unaffected :
-      overhangAt site (Monopitch slope guard) 1 ≡ cond (ltb 800 (site .altitude)) (force (overhangForce (wholeLoad site slope guard))) none
+      (n : ℕ)
+      → overhangAt site (Monopitch slope guard) n
+      ≡ cond (eqb n 1 && ltb 800 (site .altitude)) (force (overhangForce (wholeLoad site slope guard))) none
   unfolding overhangAt slopeAt
-  monopitch-unaffected = rw monopitch-whole refl
+  monopitch-unaffected n = rw (monopitch-whole, one-present (eqb n 1))
 
   pub monopitch-answers :
       (roof : Roof) (n : ℕ) → roof .shape ≡ Monopitch slope guard
