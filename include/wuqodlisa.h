@@ -1,4 +1,4 @@
-/* Snow load arrangements of EN 1991-1-3:2003 for the firmware of the load terminals.
+/* Snow load arrangements of EN 1991-1-3:2003 for the firmware of the load terminals, and the quote desk's verdict.
  *
  * Every call takes any bytes as a sheet and any numbers, refuses what it can't answer, and ends.
  * What a caller owes: no pointer is null, each has the length given with it (in elements) and is aligned,
@@ -26,7 +26,8 @@ extern "C" {
 #define SNOW_IS_REFUSAL(answer) ((uint32_t)(answer) - SNOW_REFUSED < SNOW_NONE - SNOW_REFUSED)
 
 /* The number of a refusal and the item that it names:
- *  1 a sheet of fewer than 2 or more than 16,384 bytes, a count outside 1..32, or pairs that don't fit
+ *  1 a sheet of fewer than 2 or more than 16,384 bytes, a count outside 1..32, or pairs that don't fit; at the quote desk
+ *    more than 2,048 bytes, or a count outside 1..8
  *  2 an item that overlaps what is before it or runs past the sheet
  *  3 an unknown kind
  *  4 an item that is empty or not of its kind's length
@@ -46,6 +47,10 @@ extern "C" {
 
 /* The count of a sheet's items, or a refusal (1 to 10, 14, 15; a map site's 14 and 15 come after its 6 and 7). */
 uint32_t snow_verdict(const uint8_t *sheet, size_t length);
+
+/* The same for the quote desk, which takes at most 8 items and 2,048 bytes: a sheet that has more is refused by 1, item 0,
+ * before any other rule. On every other sheet it answers what snow_verdict does. */
+uint32_t snow_desk_verdict(const uint8_t *sheet, size_t length);
 
 /* Codes of arrangements: 1, 2, 3 persistent snow; 11, 12, 13 the same shapes with exceptional falls; 30 + j, at most 45,
  * an exceptional drift in valley j of a roof of kind 9. Situations (Annex A): 0 case A, 1 B1, 2 B2, 3 B3. Codes 12 and 13

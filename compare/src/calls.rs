@@ -1,11 +1,11 @@
-//! The seven calls with the same answers as the C calls of the library.
+//! The eight calls with the same answers as the C calls of the library.
 
 use crate::arrangement::Arrangement;
 use crate::forces;
 use crate::ground;
 use crate::listing;
 use crate::loads::Tenths;
-use crate::sheet::{number, Item, Items, Refusal, Roof, Site};
+use crate::sheet::{number, Ceiling, Item, Items, Refusal, Roof, Site, DESK, TERMINALS};
 
 /// A refusal is this plus 65,536 × number plus the item; an index above 65,535 shows as 65,535.
 pub const REFUSED: u32 = 0x8000_0000;
@@ -19,7 +19,12 @@ pub type Asked = (Site, Option<Roof>);
 
 /// The count of a sheet's items, or a refusal.
 pub fn verdict(sheet: &[u8]) -> u32 {
-    answer(count(sheet))
+    answer(count(sheet, TERMINALS))
+}
+
+/// The same, as the quote desk reads it.
+pub fn desk_verdict(sheet: &[u8]) -> u32 {
+    answer(count(sheet, DESK))
 }
 
 /// Writes an arrangement's segments, four numbers each; their count, or a refusal.
@@ -71,8 +76,8 @@ fn answer(result: Result<u32, Refusal>) -> u32 {
     })
 }
 
-fn count(sheet: &[u8]) -> Result<u32, Refusal> {
-    let mut items = Items::of(sheet)?;
+fn count(sheet: &[u8], ceiling: Ceiling) -> Result<u32, Refusal> {
+    let mut items = Items::of(sheet, ceiling)?;
     let count = items.len() as u32;
     items.try_for_each(|item| item.map(|_| ()))?;
     Ok(count)
@@ -80,7 +85,7 @@ fn count(sheet: &[u8]) -> Result<u32, Refusal> {
 
 /// The figures of an item. Every rule on the sheet comes before the index asked for.
 pub fn ask(sheet: &[u8], index: usize) -> Result<Asked, Refusal> {
-    let items = Items::of(sheet)?;
+    let items = Items::of(sheet, TERMINALS)?;
     let count = items.len();
     let mut site = None;
     let mut wanted = None;
@@ -167,6 +172,44 @@ mod tests {
         assert_eq!(verdict(&[]), 0x8001_0000);
         assert_eq!(load(&SHEET, 0, 1, 0), 0x800D_0000);
         assert_eq!(refusal_parts(0x800C_FFFE), (12, 65_534));
+    }
+
+    /// Sheets with the site in front, so many cylindrical roofs and so many bytes behind them.
+    fn with_roofs(roofs: usize, tail: usize) -> Vec<u8> {
+        let count = 1 + roofs;
+        let pairs = (0..roofs).flat_map(|roof| [16 + 4 * count + 9 * roof, 9]);
+        let head = [count, 2 + 4 * count, 14].into_iter().chain(pairs);
+        let mut sheet: Vec<u8> = head
+            .flat_map(|number| (number as u16).to_le_bytes())
+            .collect();
+        sheet.extend(&SHEET[6..]);
+        for _ in 0..roofs {
+            sheet.extend([5, 1, 0, 0, 0, 2, 0, 0, 0]);
+        }
+        sheet.resize(sheet.len() + tail, 0);
+        sheet
+    }
+
+    /// The quote desk reads 8 items and 2,048 bytes. 1 comes before 2, for either caller.
+    #[test]
+    fn the_desk_has_a_ceiling_of_its_own() {
+        for roofs in 0..32 {
+            let sheet = with_roofs(roofs, 0);
+            let count = 1 + roofs as u32;
+            assert_eq!(verdict(&sheet), count);
+            let desk = if count <= 8 { count } else { 0x8001_0000 };
+            assert_eq!(desk_verdict(&sheet), desk);
+        }
+        let bytes = with_roofs(7, 0).len();
+        assert_eq!(desk_verdict(&with_roofs(7, 2_047 - bytes)), 8);
+        assert_eq!(desk_verdict(&with_roofs(7, 2_048 - bytes)), 8);
+        assert_eq!(desk_verdict(&with_roofs(7, 2_049 - bytes)), 0x8001_0000);
+        assert_eq!(verdict(&with_roofs(7, 2_049 - bytes)), 8);
+        let mut overlapping = with_roofs(8, 0);
+        overlapping[6] = 0;
+        assert_eq!(verdict(&overlapping), 0x8002_0001);
+        assert_eq!(desk_verdict(&overlapping), 0x8001_0000);
+        assert_eq!(desk_verdict(&[]), 0x8001_0000);
     }
 
     /// A map site alone: Alpine Region, zone 2, 500 m.

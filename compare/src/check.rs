@@ -5,6 +5,7 @@ use std::hint::black_box;
 use second::calls::{self, LIST_ROOM};
 
 use crate::before::Before;
+use crate::desk::Read;
 use crate::draft;
 use crate::eaves::Eave;
 use crate::ffi;
@@ -69,7 +70,21 @@ impl Checker {
         self.settle(Call::Verdict, asked, 0, [ours, theirs], || {
             "verdict".to_string()
         });
+        self.desk_verdict(asked, ours);
         asked
+    }
+
+    /// Compares the desk's verdicts, and holds them to that of a terminal.
+    fn desk_verdict(&mut self, asked: Asked, terminal: u32) {
+        let ours = calls::desk_verdict(asked.sheet);
+        let theirs = ffi::desk_verdict(asked.sheet);
+        self.settle(Call::DeskVerdict, asked, 0, [ours, theirs], || {
+            "desk_verdict".to_string()
+        });
+        if ours == theirs {
+            let read = Read::new(asked.sheet, terminal, ours);
+            self.tally.read(asked.sheet, &read);
+        }
     }
 
     /// Compares segments, the numbers behind them and the memory around the slice.

@@ -513,6 +513,13 @@ pub fn items(random: &mut Random) -> Vec<Vec<u8>> {
 
 /// Puts items into a sheet, with gaps before, between and behind them.
 pub fn sheet(random: &mut Random, items: &[Vec<u8>]) -> Vec<u8> {
+    let mut sheet = packed(random, items);
+    fill_up(random, &mut sheet);
+    sheet
+}
+
+/// Puts items into a sheet that ends with the last one.
+pub fn packed(random: &mut Random, items: &[Vec<u8>]) -> Vec<u8> {
     let gaps = random.once_in(2);
     let mut body = Vec::new();
     let mut pairs = Vec::new();
@@ -530,7 +537,6 @@ pub fn sheet(random: &mut Random, items: &[Vec<u8>]) -> Vec<u8> {
         sheet.extend((length as u16).to_le_bytes());
     }
     sheet.extend(body);
-    fill_up(random, &mut sheet);
     sheet
 }
 

@@ -1,9 +1,10 @@
-//! The seven C calls of the library behind safe functions.
+//! The eight C calls of the library behind safe functions.
 
 mod raw {
     #[link(name = "terminal", kind = "static")]
     extern "C" {
         pub fn snow_verdict(sheet: *const u8, length: usize) -> u32;
+        pub fn snow_desk_verdict(sheet: *const u8, length: usize) -> u32;
         pub fn snow_make(
             sheet: *const u8,
             length: usize,
@@ -32,6 +33,11 @@ mod raw {
 pub fn verdict(sheet: &[u8]) -> u32 {
     // SAFETY: a slice has the length given with it.
     unsafe { raw::snow_verdict(sheet.as_ptr(), sheet.len()) }
+}
+
+pub fn desk_verdict(sheet: &[u8]) -> u32 {
+    // SAFETY: a slice has the length given with it.
+    unsafe { raw::snow_desk_verdict(sheet.as_ptr(), sheet.len()) }
 }
 
 pub fn make(sheet: &[u8], item: usize, code: u8, out: &mut [u32]) -> u32 {

@@ -4,7 +4,7 @@ use crate::arrangement::{codes, loaded_width, Arrangement};
 use crate::forces;
 use crate::ground;
 use crate::loads::{Exact, Tenths, Whole};
-use crate::sheet::{Item, Items, Roof, Site, Situation, Slope};
+use crate::sheet::{Item, Items, Roof, Site, Situation, Slope, TERMINALS};
 
 const SITE: Site = Site {
     ground_load: 1_000,
@@ -41,7 +41,7 @@ fn roof(bytes: &[u8]) -> Result<Roof, u8> {
     sheet.extend((bytes.len() as u16).to_le_bytes());
     sheet.extend([1, 0xE8, 3, 0, 0, 100, 0, 100, 0, 200, 0, 0, 0xF4, 1]);
     sheet.extend(bytes);
-    let item = Items::of(&sheet).unwrap().nth(1).unwrap();
+    let item = Items::of(&sheet, TERMINALS).unwrap().nth(1).unwrap();
     match item.map_err(|refusal| refusal.number)? {
         Item::Roof(roof) => Ok(roof),
         Item::Site(_) => unreachable!(),

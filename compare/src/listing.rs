@@ -3,7 +3,7 @@
 use crate::arrangement::{codes, Arrangement};
 use crate::forces;
 use crate::loads::Tenths;
-use crate::sheet::{Item, Items, Refusal, Roof, Site};
+use crate::sheet::{Item, Items, Refusal, Roof, Site, TERMINALS};
 
 /// A number of bytes that holds the listing of any sheet.
 pub const ROOM: usize = 267_373;
@@ -25,7 +25,7 @@ pub fn list(sheet: &[u8], out: &mut Vec<u8>) {
 
 /// All items, so that no line is written before every rule is checked.
 fn items_of(sheet: &[u8]) -> Result<Vec<Item>, Refusal> {
-    let items = Items::of(sheet)?;
+    let items = Items::of(sheet, TERMINALS)?;
     let mut kept = Vec::with_capacity(items.len());
     for item in items {
         kept.push(item?);

@@ -5,6 +5,7 @@
 mod before;
 mod check;
 mod damage;
+mod desk;
 mod draft;
 mod drifts;
 mod eaves;
@@ -41,6 +42,7 @@ fn main() -> ExitCode {
     fuzz.sweep_pairs();
     fuzz.sweep_tenths();
     fuzz.sweep_eaves();
+    fuzz.sweep_desk();
     fuzz.run(sheets);
     let tally = &fuzz.checker.tally;
     tally.print();

@@ -4,10 +4,23 @@ use std::ops::RangeInclusive;
 
 use crate::ground;
 
-/// Bytes of the longest sheet.
-pub const MAX_SHEET: usize = 16_384;
-/// Items of the fullest sheet.
-pub const MAX_ITEMS: usize = 32;
+/// The most items and bytes that a sheet may have, by who reads it.
+#[derive(Clone, Copy, Debug)]
+pub struct Ceiling {
+    pub items: usize,
+    pub bytes: usize,
+}
+
+pub const TERMINALS: Ceiling = Ceiling {
+    items: 32,
+    bytes: 16_384,
+};
+/// The quote desk, which wants no long jobs.
+pub const DESK: Ceiling = Ceiling {
+    items: 8,
+    bytes: 2_048,
+};
+
 /// Spans of the longest multi-span roof.
 pub const MAX_SPANS: usize = 16;
 /// Slopes of the longest multi-span roof.
@@ -194,8 +207,8 @@ pub struct Items<'a> {
 
 impl<'a> Items<'a> {
     /// Checks the frame (1) and all pairs in turn (2).
-    pub fn of(sheet: &'a [u8]) -> Result<Self, Refusal> {
-        let count = frame(sheet).ok_or(Refusal::new(number::FRAME, 0))?;
+    pub fn of(sheet: &'a [u8], ceiling: Ceiling) -> Result<Self, Refusal> {
+        let count = frame(sheet, ceiling).ok_or(Refusal::new(number::FRAME, 0))?;
         let mut free = 2 + 4 * count;
         for item in 0..count {
             let (offset, length) = pair(sheet, item);
@@ -236,13 +249,13 @@ impl Iterator for Items<'_> {
 }
 
 /// The count of items, where the length, the count and the room for the pairs are right.
-fn frame(sheet: &[u8]) -> Option<usize> {
-    if sheet.len() > MAX_SHEET {
+fn frame(sheet: &[u8], ceiling: Ceiling) -> Option<usize> {
+    if sheet.len() > ceiling.bytes {
         return None;
     }
     let (head, pairs) = sheet.split_first_chunk()?;
     let count = usize::from(u16::from_le_bytes(*head));
-    ((1..=MAX_ITEMS).contains(&count) && pairs.len() >= 4 * count).then_some(count)
+    ((1..=ceiling.items).contains(&count) && pairs.len() >= 4 * count).then_some(count)
 }
 
 /// Offset and length of an item. The pairs are known to fit.

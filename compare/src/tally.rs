@@ -5,11 +5,13 @@ use std::cmp::Ordering;
 use second::calls::{refusal_parts, NONE, REFUSED};
 
 use crate::before::Returned;
+use crate::desk::{self, Read};
 use crate::eaves::Eave;
 
-/// The seven calls, in the order of the header.
-pub const CALLS: [&str; 7] = [
+/// The eight calls, in the order of the header.
+pub const CALLS: [&str; 8] = [
     "verdict",
+    "desk_verdict",
     "make",
     "load",
     "overhang",
@@ -48,6 +50,8 @@ const VALLEYS: u64 = 120 * 2;
 pub const DRIFT_ROUNDS: u64 = 24;
 /// Pairs of the sheet whose every offset and every length is asked for.
 pub const PAIRS: usize = 3;
+/// Refusals of a sheet inside the desk's ceiling, which the desk and a terminal share.
+const SHEET_REFUSALS: [usize; 12] = [1, 2, 3, 4, 5, 6, 7, 8, 9, 10, 14, 15];
 /// A load lies less than this above the exact rule, in millionths of a N/m².
 const DISTANCE: u64 = 1_200_000;
 /// An overhang lies less than this above the rule over the unrounded load, in millionths of a N/m.
@@ -58,6 +62,7 @@ const SHOWN: u64 = 5;
 #[derive(Clone, Copy)]
 pub enum Call {
     Verdict,
+    DeskVerdict,
     Make,
     Load,
     Overhang,
@@ -89,6 +94,7 @@ pub struct Tally {
     pub pairs: PairTally,
     pub tenths: TenthsTally,
     pub eaves: EaveTally,
+    pub desk: DeskTally,
     disagreements: u64,
 }
 
@@ -316,6 +322,57 @@ impl EaveTally {
     }
 }
 
+/// Verdicts of the quote desk beside those of the terminals.
+#[derive(Default)]
+pub struct DeskTally {
+    /// On sheets inside the desk's ceiling, by number, 0 for those that are accepted.
+    inside: [u64; MAX_NUMBER + 1],
+    /// On sheets outside of it, which the terminals refuse and accept.
+    outside: [u64; 2],
+    /// Sheets that the terminals accept, by items and bytes at the desk's ceiling and beside it.
+    edges: [[u64; desk::BYTES.len()]; desk::ITEMS.len()],
+}
+
+impl DeskTally {
+    /// Counts two verdicts on a sheet; whether they are as they must be.
+    fn count(&mut self, read: &Read) -> bool {
+        let accepted = read.terminal < REFUSED;
+        if read.is_inside() {
+            self.inside[number_of(read.terminal)] += 1;
+        } else {
+            self.outside[usize::from(accepted)] += 1;
+        }
+        if let (Some((items, bytes)), true) = (read.edge(), accepted) {
+            self.edges[items][bytes] += 1;
+        }
+        read.is_right()
+    }
+
+    fn is_good(&self) -> bool {
+        self.inside[0] > 0
+            && SHEET_REFUSALS.iter().all(|&number| self.inside[number] > 0)
+            && self.outside.iter().all(|&count| count > 0)
+            && self.edges.iter().flatten().all(|&count| count > 0)
+    }
+
+    fn print(&self) {
+        let accepted = self.inside[0];
+        let inside: u64 = self.inside.iter().sum();
+        let [refused, sound] = self.outside;
+        println!(
+            "DESK {inside} sheets inside its ceiling, accepted {accepted}, refused {}",
+            inside - accepted
+        );
+        println!("  outside of it {sound} that the terminals accept, {refused} that they refuse");
+        println!(
+            "  sound ones of {:?} items with {:?} bytes, each met at least {} times",
+            desk::ITEMS,
+            desk::BYTES,
+            self.edges.iter().flatten().min().unwrap_or(&0)
+        );
+    }
+}
+
 impl Tally {
     pub fn new() -> Self {
         Self {
@@ -335,6 +392,7 @@ impl Tally {
             pairs: PairTally::default(),
             tenths: TenthsTally::default(),
             eaves: EaveTally::default(),
+            desk: DeskTally::default(),
             disagreements: 0,
         }
     }
@@ -383,6 +441,13 @@ impl Tally {
         }
     }
 
+    /// Counts the verdicts of a terminal and of the desk on a sheet, in the same way.
+    pub fn read(&mut self, sheet: &[u8], read: &Read) {
+        if !self.desk.count(read) {
+            self.disagree(sheet, || format!("{read:?}"));
+        }
+    }
+
     /// Counts a disagreement. The first few are printed at once, lest a crash hide them.
     pub fn disagree(&mut self, sheet: &[u8], describe: impl FnOnce() -> String) {
         self.disagreements += 1;
@@ -401,8 +466,8 @@ impl Tally {
     }
 
     /// No disagreement, and every refusal, every slice length, every missing index, every place of
-    /// the map, every situation, every valley, every number of a pair, every drop and, at either
-    /// eave, an overhang by the other slope's load was met.
+    /// the map, every situation, every valley, every number of a pair, every drop, at either eave an
+    /// overhang by the other slope's load, and every edge of the desk's ceiling was met.
     pub fn is_good(&self) -> bool {
         self.agrees()
             && self.refused[1..].iter().all(|&count| count > 0)
@@ -416,6 +481,7 @@ impl Tally {
             && self.pairs.is_good()
             && self.tenths.is_good()
             && self.eaves.is_good()
+            && self.desk.is_good()
     }
 
     pub fn print(&self) {
@@ -447,6 +513,7 @@ impl Tally {
         self.pairs.print();
         self.tenths.print();
         self.eaves.print();
+        self.desk.print();
         self.print_lengths();
         self.print_missing();
         println!("DISAGREEMENTS {}", self.disagreements);

@@ -1,6 +1,6 @@
 /* Prints how much stack each call takes at most, over the sheets that are named as arguments and the heaviest sheets there
-   are: 31 multi-span roofs of 16 spans, of kind 4 in situation 1 and of kind 9 in situations 1 and 3. Each call runs on a
-   stack of its own that is painted before. */
+   are: 31 multi-span roofs of 16 spans, of kind 4 in situation 1 and of kind 9 in situations 1 and 3, and six for the quote
+   desk. Each call runs on a stack of its own that is painted before. */
 #include <pthread.h>
 #include <stdint.h>
 #include <stdio.h>
@@ -9,11 +9,11 @@
 
 #include "wuqodlisa.h"
 
-enum { STACK = 1 << 20, PAINT = 0xA5, SHEET = 16384, CALLS = 8 };
+enum { STACK = 1 << 20, PAINT = 0xA5, SHEET = 16384, CALLS = 9 };
 
 static const char *const names[CALLS] = {
     "nothing", "snow_verdict", "snow_make", "snow_load", "snow_overhang", "snow_guard_force", "snow_list",
-    "snow_ground_load"};
+    "snow_ground_load", "snow_desk_verdict"};
 
 static unsigned char stack[STACK] __attribute__((aligned(4096)));
 static unsigned char sheet[SHEET];
@@ -41,6 +41,7 @@ static void *run(void *argument)
     case 5: snow_guard_force(sheet, length, job->item, job->code); break;
     case 6: snow_list(sheet, length, out, sizeof out); break;
     case 7: snow_ground_load(job->code, (uint8_t)job->item, (uint16_t)job->station); break;
+    case 8: snow_desk_verdict(sheet, length); break;
     default: break;
     }
     return NULL;
@@ -74,6 +75,7 @@ static void measure_sheet(void)
     measure((struct job){0, 0, 0, 0});
     measure((struct job){1, 0, 0, 0});
     measure((struct job){6, 0, 0, 0});
+    measure((struct job){8, 0, 0, 0});
     for (size_t item = 0; item <= items; item++) {
         for (size_t k = 0; k < sizeof codes; k++) {
             measure((struct job){2, item, codes[k], 0});
@@ -129,14 +131,14 @@ static void heavy_roof(size_t at, uint8_t kind)
     }
 }
 
-/* Puts together the heaviest sheet of a kind. */
-static void heaviest(uint8_t kind, uint8_t situation)
+/* Puts together the heaviest sheet of a kind with so many items. */
+static void heaviest(uint8_t kind, uint8_t situation, size_t items)
 {
     const size_t roof = kind == 9 ? 20 * 16 - 6 : 2 + 12 * 16;
-    size_t at = 2 + 4 * 32;
+    size_t at = 2 + 4 * items;
     memset(sheet, 0, sizeof sheet);
-    put(0, 32, 2);
-    for (size_t i = 0; i < 32; i++) {
+    put(0, (uint32_t)items, 2);
+    for (size_t i = 0; i < items; i++) {
         size_t bytes = i == 0 ? 14 : roof;
         put(2 + 4 * i, (uint32_t)at, 2);
         put(4 + 4 * i, (uint32_t)bytes, 2);
@@ -161,14 +163,16 @@ int main(int count, char **names_of_sheets)
         fclose(file);
         measure_sheet();
     }
-    heaviest(4, 1);
+    heaviest(4, 1, 32);
     measure_sheet();
-    heaviest(9, 1);
+    heaviest(9, 1, 32);
     measure_sheet();
-    heaviest(9, 3);
+    heaviest(9, 3, 32);
+    measure_sheet();
+    heaviest(9, 3, 7); /* the most such roofs that the desk takes */
     measure_sheet();
     measure_map();
     for (int call = 1; call < CALLS; call++)
-        printf("%-16s %zu bytes of stack\n", names[call], most[call] - most[0]);
+        printf("%-17s %zu bytes of stack\n", names[call], most[call] - most[0]);
     return 0;
 }

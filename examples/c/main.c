@@ -216,12 +216,24 @@ static size_t list(const struct sheet *sheet)
     return lines;
 }
 
+/* What the quote desk answers: the terminal's verdict, or 1 where the sheet has more than 8 items or 2,048 bytes. */
+static void ask_desk(const struct sheet *sheet, uint32_t verdict)
+{
+    uint32_t answer = snow_desk_verdict(sheet->bytes, sheet->length);
+    unsigned items = sheet->length < 2 ? 0 : sheet->bytes[0] + 256u * sheet->bytes[1];
+    bool inside = items <= 8 && sheet->length <= 2048;
+    printf("DESK: ");
+    print_answer(answer, "items");
+    check(inside ? answer == verdict : refused_with(answer, 1, 0), "the desk reads otherwise", 0);
+}
+
 static void ask(const struct sheet *sheet)
 {
     size_t lines = 1; /* the header, or the line REFUSED */
     uint32_t count = snow_verdict(sheet->bytes, sheet->length);
     printf("VERDICT: ");
     print_answer(count, "items");
+    ask_desk(sheet, count);
     if (decode(count).number != 0) {
         check_refused(sheet, 1, count);
     } else {

@@ -3,11 +3,13 @@ ghost use mathlib.Core.Path.{_≡_};
 ghost use Prim.Native.Nat.{_≤_, min};
 ghost use Rattle.arrangement.specs.Arrangement.{madeMeans, madeCount};
 ghost use Rattle.local_forces.specs.Answers.{forceMeans};
+ghost use Rattle.pairs.specs.Pairs.{verdictMeans, verdictCount};
 ghost use Rattle.reading.specs.Reading.{readingMeans};
-ghost use Rattle.answer_codes.specs.Codes.{refusalCode, answerCode, groundCode, forceCode};
+ghost use Rattle.answer_codes.specs.Codes.{refusalCode, verdictCode, answerCode, groundCode, forceCode};
 use arrangement::Made;
 use local_forces::LocalForce;
 use map_sites::GroundLoad;
+use pairs::Verdict;
 use reading::Reading;
 
 // The answer where there is no such force.
@@ -25,6 +27,17 @@ pub fn refusal(number: u8, item: usize) -> u32
     ensures { λ r. ⌜ r ≡ refusalCode number item ⌝ }
 {
     0x8000_0000 + 65_536 * number as u32 + shown(item)
+}
+
+// A count of items, or the refusal of a sheet.
+pub fn verdict(answer: Verdict) -> u32
+    requires { ⌜ verdictCount answer ≤ 32 ⌝ }
+    ensures { λ r. ⌜ r ≡ verdictCode (verdictMeans answer) ⌝ }
+{
+    match answer {
+        Verdict::Accepted(n) => n as u32,
+        Verdict::Refused(number, item) => refusal(number, item),
+    }
 }
 
 // A force, none, or the refusal of an item.

@@ -7,7 +7,8 @@ use native.Mathlib.Omega.{arith}
 use Rattle.listing.specs.Listing.{itemRows, itemsRows}
 use Rattle.roof_rows.specs.Rows.{roofRows}
 use Rattle.sheet_figures.specs.Find.{sheetSite, sheetRoof}
-use Rattle.pairs.specs.Pairs.{accepted, terminals}
+use Rattle.ceilings.specs.Ceilings.{terminals}
+use Rattle.pairs.specs.Pairs.{accepted}
 use Rattle.sheet.specs.Sheet.{ItemIn, sheetVerdict}
 use Rattle.sheet.proofs.Kept.{sheet-kept, item-in}
 use Rattle.sheet_figures.proofs.Sound.{site-sound, roof-sound}

@@ -12,7 +12,8 @@ use Rattle.listing.specs.Listing.{header}
 use Rattle.roof_rows.specs.Rows.{roofRows}
 use Rattle.listing.specs.Listing.{itemRows, itemsRows, listingBy, listing, listRoom, listed, bytesAfter}
 use Rattle.sheet_figures.specs.Find.{sheetSite, sheetRoof}
-use Rattle.pairs.specs.Pairs.{Answer, accepted, refused, terminals}
+use Rattle.ceilings.specs.Ceilings.{terminals}
+use Rattle.pairs.specs.Pairs.{Answer, accepted, refused}
 use Rattle.sheet.specs.Sheet.{sheetVerdict}
 use Rattle.standard.specs.Coefficients.{recommendedFigures}
 use Rattle.text.proofs.Writing.{short, in-place, room, wrote-as}

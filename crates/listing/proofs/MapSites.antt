@@ -4,7 +4,8 @@ use mathlib.Core.List.{List}
 use mathlib.Core.Path.{_≡_, refl, ap, _∙_}
 use native.Mathlib.Omega.{arith}
 use Rattle.listing.specs.Listing.{itemRows, itemsRows, listingBy, listing}
-use Rattle.pairs.specs.Pairs.{Answer, accepted, refused, terminals}
+use Rattle.ceilings.specs.Ceilings.{terminals}
+use Rattle.pairs.specs.Pairs.{Answer, accepted, refused}
 use Rattle.sheet.specs.Sheet.{sheetVerdict}
 use Rattle.sheet_figures.proofs.MapSites.{same-verdict, same-site, same-roof, counted}
 use Rattle.sheet_figures.specs.MapSites.{GivenLoad}

@@ -6,7 +6,8 @@ use lib.Dec.{ltb}
 use lib.ListN.{length, drop}
 use Rattle.roof_rows.specs.Rows.{roofRows}
 use Rattle.sheet_figures.specs.Find.{sheetSite, sheetRoof}
-use Rattle.pairs.specs.Pairs.{Answer, accepted, refused, terminals}
+use Rattle.ceilings.specs.Ceilings.{terminals}
+use Rattle.pairs.specs.Pairs.{Answer, accepted, refused}
 use Rattle.sheet.specs.Sheet.{sheetVerdict}
 use Rattle.standard.specs.Coefficients.{recommendedFigures}
 use Rattle.standard.specs.declared.National.{National}

@@ -6,10 +6,12 @@ ghost use mathlib.Core.Path.{_≡_};
 ghost use Prim.Native.Nat.{_≤_};
 ghost use lib.ListN.{length};
 ghost use Rattle.listing.specs.Listing.{listingBy, listRoom, listed, bytesAfter, Free};
-ghost use Rattle.pairs.specs.Pairs.{accepted, terminals};
+ghost use Rattle.ceilings.specs.Ceilings.{terminals};
+ghost use Rattle.pairs.specs.Pairs.{accepted};
 ghost use Rattle.sheet.specs.Sheet.{sheetVerdict};
 ghost use Rattle.text.specs.Text.{Wrote};
 pub use roof_rows::NUMBERS;
+use sheet::Caller;
 use sheet::Verdict;
 use sheet::verdict;
 
@@ -37,7 +39,7 @@ pub fn list(sheet: &[u8], numbers: &mut [u32; NUMBERS], out: &mut [u8]) -> usize
     if out.len() < LIST_ROOM {
         return 0;
     }
-    match verdict(sheet) {
+    match verdict(sheet, Caller::Terminal) {
         Verdict::Refused(number, item) => rows::put_refused(out, number as u32, item as u32),
         Verdict::Accepted(n) => list_accepted(sheet, n, numbers, out),
     }

@@ -1,18 +1,32 @@
--- Words worked by hand: that of a site's pair on a sheet of its own (offset 6, length 14), that of four bytes that differ, and the highest.
-use Prim.Native.Nat.{ℕ}
-use mathlib.Core.List.{[], _∷_}
+-- Counts and bytes at the desk's ceiling and beside it.
+use Prim.Native.Nat.{ℕ, zero, suc, _+_, _-_, _*_}
+use mathlib.Core.List.{List, [], _∷_, _++_}
 use mathlib.Core.Path.{_≡_, refl}
-use Rattle.pairs.specs.Words.{wordOf, join, split}
-use Rattle.pairs.specs.declared.words.Pair.{Pair}
+use lib.ListN.{length, replicate}
+use Rattle.ceilings.specs.Ceilings.{ceilingOf}
+use Rattle.ceilings.specs.declared.Caller.{Caller}
+use Rattle.ceilings.specs.declared.Caller.the-variants.{Terminal, Desk}
+use Rattle.pairs.specs.Pairs.{Answer, accepted, refused, pairNumber, inTurn, pairsVerdict}
 
-abbrev pair : ℕ → ℕ → Pair
-pair offset size = record { offset = offset; size = size }
+-- k pairs of an empty item at an offset
+abbrev pairsAt : ℕ → ℕ → List ℕ
+pairsAt offset zero = []
+pairsAt offset (suc k) = offset ∷ 0 ∷ 0 ∷ 0 ∷ pairsAt offset k
 
-pub put-together : (wordOf 6 0 14 0 ∷ wordOf 1 2 3 4 ∷ wordOf 255 255 255 255 ∷ []) ≡ (917510 ∷ 67305985 ∷ 4294967295 ∷ [])
-put-together = refl
+-- n such pairs, at their own end, and bytes behind them
+abbrev sheetOf : ℕ → ℕ → List ℕ
+sheetOf n bytes = n ∷ 0 ∷ (pairsAt (2 + 4 * n) n ++ replicate (bytes - (2 + 4 * n)) 0)
 
-pub words-split : (split 917510 ∷ split 67305985 ∷ split 4294967295 ∷ []) ≡ (pair 6 14 ∷ pair 513 1027 ∷ pair 65535 65535 ∷ [])
-words-split = refl
+abbrev read : Caller → ℕ → ℕ → Answer ℕ
+read caller n bytes = pairsVerdict (ceilingOf caller) (sheetOf n bytes)
 
-pub pairs-joined : (join (pair 6 14) ∷ join (pair 513 1027) ∷ join (pair 65535 65535) ∷ []) ≡ (917510 ∷ 67305985 ∷ 4294967295 ∷ [])
-pairs-joined = refl
+pub bytes-of : (length (sheetOf 7 2047) ∷ length (sheetOf 8 2048) ∷ length (sheetOf 9 2049) ∷ []) ≡ (2047 ∷ 2048 ∷ 2049 ∷ [])
+bytes-of = refl
+
+pub desk-reads : (read Desk 7 2047 ∷ read Desk 8 2048 ∷ read Desk 9 2048 ∷ read Desk 8 2049 ∷ []) ≡ (accepted 7 ∷ accepted 8 ∷ refused 1 0 ∷ refused 1 0 ∷ [])
+unfolding pairsVerdict inTurn pairNumber
+desk-reads = refl
+
+pub terminal-reads : (read Terminal 8 2048 ∷ read Terminal 9 2048 ∷ read Terminal 8 2049 ∷ []) ≡ (accepted 8 ∷ accepted 9 ∷ accepted 8 ∷ [])
+unfolding pairsVerdict inTurn pairNumber
+terminal-reads = refl

@@ -1,17 +1,15 @@
 -- The items of a sheet in turn, and what the tests on a pair tell.
 use Prim.Native.Nat.{ℕ, suc, _+_, _-_, _*_, _≤_, _<_}
 use mathlib.Core.Path.{_≡_}
-use mathlib.Core.Bool.{true, false, _&&_}
+use mathlib.Core.Bool.{true, false}
 use mathlib.Core.List.{List}
-use borrow.Author.Tests.{le-leb, lt-leb, leb-true, eq-eqb, ne-eqb}
-use lib.Dec.{leb}
+use borrow.Author.Tests.{le-leb, lt-leb, eq-eqb, ne-eqb}
 use lib.ListN.{length}
 use native.Mathlib.Numerals.{add-one}
 use native.Mathlib.Omega.{arith}
-use Rattle.figures.proofs.Laws.{both, within-in}
-use Rattle.figures.specs.Ranges.{within}
-use Rattle.pairs.specs.Pairs.{accepted, refused, count, offset, size, earliest, fits, pairNumber, inTurn, pairsVerdict}
-use Rattle.pairs.specs.declared.Ceiling.{Ceiling}
+use Rattle.ceilings.specs.Ceilings.{fits}
+use Rattle.ceilings.specs.declared.Ceiling.{Ceiling}
+use Rattle.pairs.specs.Pairs.{accepted, refused, count, offset, size, earliest, pairNumber, inTurn, pairsVerdict}
 
 -- one turn of the walk, by the number of the item in turn; its end
 module _ (number : ℕ → ℕ) (m i n : ℕ) where
@@ -51,24 +49,6 @@ module _ (s : List ℕ) (i : ℕ) where
   pub pair-sound : earliest s i ≤ offset s i → offset s i + size s i ≤ length s → pairNumber s i ≡ 0
   unfolding pairNumber
   pair-sound h g = rw (le-leb (earliest s i) (offset s i) h, le-leb (offset s i + size s i) (length s) g)
-
--- what the limits tell
-pub record Fitting (ceiling : Ceiling) (b n : ℕ) : Type 0 where
-  pub bytes : b ≤ ceiling .bytes
-  pub some : 1 ≤ n
-  pub items : n ≤ ceiling .items
-  pub pairs : 2 + 4 * n ≤ b
-
-pub fitting : (ceiling : Ceiling) (b n : ℕ) → fits ceiling b n ≡ true → Fitting ceiling b n
-fitting ceiling b n h =
-    let p = both (within 2 (ceiling .bytes) b && within 1 (ceiling .items) n) (leb (2 + 4 * n) b) h in
-    let q = both (within 2 (ceiling .bytes) b) (within 1 (ceiling .items) n) (p .0) in
-    record {
-      bytes = within-in 2 (ceiling .bytes) b (q .0) .1;
-      some = within-in 1 (ceiling .items) n (q .1) .0;
-      items = within-in 1 (ceiling .items) n (q .1) .1;
-      pairs = leb-true (2 + 4 * n) b (p .1);
-    }
 
 module _ (ceiling : Ceiling) (s : List ℕ) where
   pub too-short : length s < 2 → refused 1 0 ≡ pairsVerdict ceiling s

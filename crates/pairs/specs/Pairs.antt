@@ -4,9 +4,9 @@ use mathlib.Core.Bool.{Bool, cond, _&&_}
 use mathlib.Core.List.{List}
 use lib.Dec.{leb, eqb}
 use lib.ListN.{length}
-use Rattle.figures.specs.Ranges.{within}
 use Rattle.little_endian.specs.Numbers.{le16}
-use Rattle.pairs.specs.declared.Ceiling.{Ceiling}
+use Rattle.ceilings.specs.Ceilings.{fits, inside}
+use Rattle.ceilings.specs.declared.Ceiling.{Ceiling}
 use Rattle.pairs.specs.declared.Verdict.{Verdict}
 use Rattle.pairs.specs.declared.Verdict.the-variants.{Accepted, Refused}
 
@@ -14,10 +14,6 @@ use Rattle.pairs.specs.declared.Verdict.the-variants.{Accepted, Refused}
 pub data Answer (A : Type 0) : Type 0 where
   accepted : A → Answer A
   refused : ℕ → ℕ → Answer A
-
--- the ceilings of the terminals: n up to 32, a sheet up to 16,384 bytes
-abbrev pub terminals : Ceiling
-terminals = record { items = 32; bytes = 16384 }
 
 -- "Bytes 0 and 1 give the count n"
 abbrev pub count : List ℕ → ℕ
@@ -35,9 +31,9 @@ abbrev pub earliest : List ℕ → ℕ → ℕ
 earliest s zero = 2 + 4 * count s
 earliest s (suc i) = offset s i + size s i
 
--- a sheet's bytes and its n within their limits, and the pairs fit in the sheet: otherwise 1
-abbrev pub fits : Ceiling → ℕ → ℕ → Bool
-fits ceiling bytes n = within 2 (ceiling .bytes) bytes && within 1 (ceiling .items) n && leb (2 + 4 * n) bytes
+-- document 02, A6: "A sheet inside the desk's ceiling", of any ceiling
+abbrev pub sheetInside : Ceiling → List ℕ → Bool
+sheetInside ceiling s = inside ceiling (length s) (count s)
 
 -- pair i keeps the rule of offsets, and its item does not run past the sheet: otherwise 2
 unfoldable pub pairNumber : List ℕ → ℕ → ℕ
@@ -56,3 +52,8 @@ pairsVerdict ceiling s = cond (fits ceiling (length s) (count s)) (inTurn (pairN
 abbrev pub verdictMeans : Verdict → Answer ℕ
 verdictMeans (Accepted n) = accepted n
 verdictMeans (Refused number item) = refused number item
+
+-- the count in it, 0 where it is a refusal
+abbrev pub verdictCount : Verdict → ℕ
+verdictCount (Accepted n) = n
+verdictCount (Refused number item) = 0

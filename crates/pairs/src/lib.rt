@@ -3,25 +3,16 @@ ghost use mathlib.Core.Path.{_≡_};
 ghost use Prim.Native.Nat.{_+_, _*_, _≤_};
 ghost use lib.ListN.{length};
 ghost use Rattle.pairs.specs.Pairs.{count, offset, size, pairNumber, inTurn, pairsVerdict, verdictMeans};
-
-mod words;
-
+use ceilings::Ceiling;
 use little_endian::index_at;
-pub use words::Pair;
-pub use words::join;
-pub use words::split;
-pub use words::word;
+use pair_words::Pair;
+use pair_words::split;
+use pair_words::word;
 
 // Refusals of a sheet's pairs, by document 01's numbers.
 const SHEET_LIMITS: u8 = 1;
 
 const PAIR: u8 = 2;
-
-// The most items and bytes that a caller's sheets may have.
-pub struct Ceiling {
-    pub items: usize,
-    pub bytes: usize,
-}
 
 // What the rules say of a sheet: accepted with its count, or the number and the item of the first broken rule.
 pub enum Verdict {

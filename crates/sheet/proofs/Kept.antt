@@ -11,12 +11,15 @@ use native.Mathlib.Nat.{eq-or-lt-of-le, eq-zero-or-pos}
 use native.Mathlib.Omega.{arith}
 use Rattle.figures.proofs.Laws.{both}
 use Rattle.items.specs.Items.{content}
-use Rattle.pairs.specs.Pairs.{Answer, accepted, refused, count, offset, size, earliest, fits, pairNumber, inTurn}
-use Rattle.sheet.specs.Sheet.{Place, part, ruleOf, itemNumber}
-use Rattle.pairs.specs.Pairs.{pairsVerdict}
-use Rattle.sheet.specs.Sheet.{ItemIn, andThen, sheetVerdict, placeBy, place}
-use Rattle.pairs.specs.declared.Ceiling.{Ceiling}
-use Rattle.pairs.proofs.Turns.{Fitting, fitting}
+use Rattle.item_rules.specs.Rules.{ruleOf}
+use Rattle.ceilings.proofs.Limits.{Fitting, fitting, below-terminals}
+use Rattle.ceilings.specs.Ceilings.{ceilingOf, fits}
+use Rattle.ceilings.specs.declared.Caller.{Caller}
+use Rattle.ceilings.specs.declared.Ceiling.{Ceiling}
+use Rattle.pairs.specs.Pairs.{Answer, accepted, refused, count, offset, size, earliest, pairNumber, inTurn, pairsVerdict, verdictMeans, verdictCount}
+use Rattle.pairs.specs.declared.Verdict.{Verdict}
+use Rattle.pairs.specs.declared.Verdict.the-variants.{Accepted, Refused}
+use Rattle.sheet.specs.Sheet.{ItemIn, Place, part, itemNumber, andThen, sheetVerdict, placeBy, place}
 
 -- an answer that is accepted is no refusal
 not-refused : {A : Type 0} (b : Bool) (v : Answer A) (k i : ℕ) (a : A) → cond b v (refused k i) ≡ accepted a → (b ≡ true) × (v ≡ accepted a)
@@ -94,6 +97,11 @@ kept-by ceiling s n (accepted m) q e =
 pub sheet-kept : (ceiling : Ceiling) (s : List ℕ) (n : ℕ) → sheetVerdict ceiling s ≡ accepted n → SheetKept ceiling s n
 unfolding sheetVerdict
 sheet-kept ceiling s n e = kept-by ceiling s n (pairsVerdict ceiling s) refl e
+
+-- an answer of `verdict` counts no more items than a terminal's sheet may have
+pub few-counted : (caller : Caller) (s : List ℕ) (v : Verdict) → verdictMeans v ≡ sheetVerdict (ceilingOf caller) s → verdictCount v ≤ 32
+few-counted caller s (Refused k i) e = omega arith
+few-counted caller s (Accepted n) e = omega (arith, sheet-kept (ceilingOf caller) s n (sym e) .pairs .fit .items, below-terminals caller .items)
 
 -- each item of an accepted sheet lies in it and breaks no rule
 pub item-in : (ceiling : Ceiling) (s : List ℕ) (n : ℕ) → sheetVerdict ceiling s ≡ accepted n → (i : ℕ) → i < n → ItemIn s i

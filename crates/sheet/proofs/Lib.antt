@@ -1,2 +1,3 @@
+pub mod Figures
 pub mod Kept
-pub mod Places
+pub mod Readers

@@ -1,42 +1,20 @@
 -- The sheet: the verdict on it, and its items. Refusals 3 to 10, 14 and 15 item by item, and 12 for an index.
-use Prim.Native.Nat.{ℕ, zero, suc, _+_, _*_, _≤_}
+use Prim.Native.Nat.{ℕ, _+_, _*_, _≤_}
 use mathlib.Core.Bool.{cond}
 use mathlib.Core.List.{List, []}
 use mathlib.Core.Path.{_≡_}
 use lib.Dec.{ltb}
 use lib.ListN.{length, take, drop}
-use Rattle.figures.specs.RoofRules.{shapeRefusal}
-use Rattle.map_sites.specs.Sites.{siteDataRefusal}
 use Rattle.items.specs.Items.{content}
-use Rattle.item_forms.specs.declared.Item.{Item}
-use Rattle.item_forms.specs.declared.Item.the-variants.{SiteItem, RoofItem, Malformed}
-use Rattle.item_forms.specs.declared.Decoded.{Decoded}
+use Rattle.item_rules.specs.Rules.{ruleOf}
+use Rattle.ceilings.specs.declared.Ceiling.{Ceiling}
 use Rattle.pairs.specs.Pairs.{Answer, accepted, refused, count, offset, size, inTurn, pairsVerdict}
-use Rattle.pairs.specs.declared.Ceiling.{Ceiling}
 use Rattle.sheet.specs.declared.reader.Located.{Located}
 use Rattle.sheet.specs.declared.reader.Located.the-variants.{At, Nowhere}
 
 -- item i, as a part of the sheet
 abbrev pub part : List ℕ → ℕ → List ℕ
 part s i = take (size s i) (drop (offset s i) s)
-
--- the first rule that an item at an index breaks, 0 where it breaks none: the refusal of its form, then
--- "5 first item no site, or a later site", then the value rules 6 to 10, 14 and 15
-abbrev pub ruleNumber : ℕ → Item → List ℕ → ℕ
-ruleNumber index (Malformed number) spans = number
-ruleNumber zero (SiteItem fields) spans = siteDataRefusal fields
-ruleNumber (suc index) (SiteItem fields) spans = 5
-ruleNumber zero (RoofItem shape) spans = 5
-ruleNumber (suc index) (RoofItem shape) spans = shapeRefusal shape spans
-
-abbrev pub ruleOf : ℕ → Decoded → ℕ
-ruleOf index d = ruleNumber index (d .item) (d .spans)
-
--- the number of an item that may not stand where it does: the refusal of its form, or 5
-abbrev pub misplaced : Item → ℕ
-misplaced (Malformed number) = number
-misplaced (SiteItem fields) = 5
-misplaced (RoofItem shape) = 5
 
 -- "then item by item empty (4), 3, 4, 5, and the value rules": the first rule that item i breaks
 unfoldable pub itemNumber : List ℕ → ℕ → ℕ

@@ -1,12 +1,13 @@
-// A sheet as bytes: the verdict on it, where an item lies, and the item as a part of the sheet; a pair's word, split and
-// joined. Every call takes any bytes, but `part_at`, which is for the crates above. The ceilings are the terminals'.
+// A sheet as bytes, by who reads it: the verdict on it, where an item lies, and the item as a part of the sheet; a pair's
+// word, split and joined. Every call takes any bytes, but `part_at`, which is for the crates above.
 mod reader;
 
-pub use pairs::Pair;
+pub use ceilings::Caller;
+pub use pair_words::Pair;
+pub use pair_words::join;
+pub use pair_words::split;
+pub use pair_words::word;
 pub use pairs::Verdict;
-pub use pairs::join;
-pub use pairs::split;
-pub use pairs::word;
 pub use reader::Located;
 pub use reader::item;
 pub use reader::locate;

@@ -17,10 +17,12 @@ use Rattle.item_forms.specs.Forms.{sized}
 use Rattle.item_forms.specs.declared.Item.{Item}
 use Rattle.item_forms.specs.declared.Item.the-variants.{SiteItem}
 use Rattle.little_endian.specs.Numbers.{byteAt}
-use Rattle.pairs.specs.Pairs.{Answer, accepted, refused, terminals, offset, size, inTurn}
+use Rattle.ceilings.specs.Ceilings.{terminals}
+use Rattle.pairs.specs.Pairs.{Answer, accepted, refused, offset, size, inTurn}
 use Rattle.sheet.proofs.Kept.{pairs-kept, sheet-kept, sheet-items}
-use Rattle.sheet.specs.Figures.{siteBy}
-use Rattle.sheet.specs.Sheet.{part, ruleNumber, itemNumber, sheetVerdict, placeBy, place}
+use Rattle.item_rules.specs.Figures.{siteBy}
+use Rattle.item_rules.specs.Rules.{ruleNumber}
+use Rattle.sheet.specs.Sheet.{part, itemNumber, sheetVerdict, placeBy, place}
 use Rattle.sheet_figures.specs.Find.{sheetSite, sheetRoof, foundIn, foundBy, found}
 use Rattle.sheet_figures.specs.MapSites.{givenItem, GivenLoad}
 

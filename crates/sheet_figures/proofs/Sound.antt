@@ -15,9 +15,11 @@ use Rattle.item_forms.specs.declared.Item.the-variants.{SiteItem, RoofItem, Mal
 use Rattle.item_forms.specs.declared.Decoded.{Decoded}
 use Rattle.sheet.proofs.Kept.{located-in}
 use Rattle.sheet_figures.specs.Find.{sheetSite, sheetRoof, foundIn, foundBy, found}
-use Rattle.pairs.specs.Pairs.{Answer, accepted, refused, terminals}
-use Rattle.sheet.specs.Figures.{noSite, noRoof, siteBy, roofBy}
-use Rattle.sheet.specs.Sheet.{Place, part, ruleNumber, ruleOf, itemNumber, place}
+use Rattle.ceilings.specs.Ceilings.{terminals}
+use Rattle.pairs.specs.Pairs.{Answer, accepted, refused}
+use Rattle.item_rules.specs.Figures.{noSite, noRoof, siteBy, roofBy}
+use Rattle.item_rules.specs.Rules.{ruleNumber, ruleOf}
+use Rattle.sheet.specs.Sheet.{Place, part, itemNumber, place}
 use Rattle.sheet_figures.specs.declared.Finding.the-variants.{RoofFound, NoRoof, Refused}
 
 site-by : (x : Item) (l : List ℕ) → Numbered x → ruleNumber 0 x l ≡ 0 → siteRefusal (siteBy x) ≡ 0

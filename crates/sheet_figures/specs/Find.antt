@@ -4,8 +4,9 @@ use mathlib.Core.List.{List}
 use Rattle.figures.specs.declared.site.Site.{Site}
 use Rattle.figures.specs.declared.roof.Roof.{Roof}
 use Rattle.items.specs.Items.{content}
-use Rattle.pairs.specs.Pairs.{Answer, accepted, refused, terminals}
-use Rattle.sheet.specs.Figures.{noSite, noRoof, siteBy, roofBy}
+use Rattle.ceilings.specs.Ceilings.{terminals}
+use Rattle.pairs.specs.Pairs.{Answer, accepted, refused}
+use Rattle.item_rules.specs.Figures.{noSite, noRoof, siteBy, roofBy}
 use Rattle.sheet.specs.Sheet.{Place, part, place}
 use Rattle.sheet_figures.specs.declared.Finding.the-variants.{RoofFound, NoRoof, Refused}
 use Rattle.sheet_figures.specs.declared.Found.{Found}

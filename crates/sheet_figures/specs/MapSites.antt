@@ -4,7 +4,8 @@ use mathlib.Core.List.{List, [], _∷_}
 use mathlib.Core.Path.{_≡_}
 use lib.ListN.{length}
 use Rattle.little_endian.specs.Numbers.{byteAt}
-use Rattle.pairs.specs.Pairs.{accepted, terminals, pairsVerdict}
+use Rattle.ceilings.specs.Ceilings.{terminals}
+use Rattle.pairs.specs.Pairs.{accepted, pairsVerdict}
 use Rattle.sheet.specs.Sheet.{part, itemNumber}
 use Rattle.sheet_figures.specs.Find.{sheetSite}
 

@@ -3,8 +3,9 @@ ghost use mathlib.Core.Path.{_≡_};
 ghost use Prim.Native.Nat.{_<_};
 ghost use Rattle.figures.specs.RoofRules.{roofRefusal};
 ghost use Rattle.figures.specs.SiteRules.{siteRefusal};
-ghost use Rattle.sheet.specs.Figures.{noSite, noRoof, siteBy, roofBy};
-ghost use Rattle.sheet.specs.Sheet.{ItemIn, ruleOf};
+ghost use Rattle.item_rules.specs.Figures.{noSite, noRoof, siteBy, roofBy};
+ghost use Rattle.item_rules.specs.Rules.{ruleOf};
+ghost use Rattle.sheet.specs.Sheet.{ItemIn};
 ghost use Rattle.sheet_figures.specs.Find.{sheetSite, sheetRoof, foundIn, found};
 use figures::Roof;
 use figures::SPAN_NUMBERS;
@@ -14,6 +15,7 @@ use items::Decoded;
 use items::Item;
 use items::decode;
 use map_sites::site_from;
+use sheet::Caller;
 use sheet::Located;
 use sheet::locate;
 use sheet::part_at;
@@ -125,7 +127,7 @@ fn found_in(s: &[u8], index: usize) -> Found
 pub fn find(s: &[u8], index: usize) -> Found
     ensures { λ r. ⌜ r ≡ found (now (s .entry)) index ⌝ }
 {
-    match locate(s, index) {
+    match locate(s, Caller::Terminal, index) {
         Located::Nowhere(number, item) => Found {
             finding: Finding::Refused(number, item),
             site: no_site(),

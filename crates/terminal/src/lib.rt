@@ -1,23 +1,23 @@
-// Calls for the terminals' firmware, in C's terms. Each takes any bytes as a sheet and any numbers; a slice is a pointer and
+// Calls for the terminals' firmware and the quote desk, in C's terms. Each takes any bytes as a sheet and any numbers; a slice is a pointer and
 // its length.
 ghost use mathlib.Core.Path.{_≡_};
 ghost use Prim.Native.Nat.{_≤_};
 ghost use lib.ListN.{length};
 ghost use Rattle.listing.specs.Listing.{listed, bytesAfter};
 ghost use Rattle.sheet_figures.specs.Find.{found};
-ghost use Rattle.pairs.specs.Pairs.{terminals};
+ghost use Rattle.ceilings.specs.Ceilings.{terminals, desk};
 ghost use Rattle.sheet.specs.Sheet.{sheetVerdict};
 ghost use Rattle.answer_codes.specs.Codes.{verdictCode, groundCode};
 ghost use Rattle.map_sites.specs.Sites.{groundAnswer};
 ghost use Rattle.item_answers.specs.Calls.{makeCode, sliceAfter, loadCode, overhangCode, guardCode};
 use answer_codes::ground;
-use answer_codes::refusal;
 use item_answers::guard_force_at;
 use item_answers::load_at;
 use item_answers::make_at;
 use item_answers::overhang_at;
 use map_sites::ground_load;
-use sheet::Verdict;
+use sheet::Caller;
+use sheet::verdict;
 use sheet_figures::find;
 
 // The count of a sheet's items, or a refusal.
@@ -25,10 +25,15 @@ use sheet_figures::find;
 pub extern "C" fn snow_verdict(sheet: &[u8]) -> u32
     ensures { λ r. ⌜ r ≡ verdictCode (sheetVerdict terminals (now (sheet .entry))) ⌝ }
 {
-    match sheet::verdict(sheet) {
-        Verdict::Accepted(n) => n as u32,
-        Verdict::Refused(number, item) => refusal(number, item),
-    }
+    answer_codes::verdict(verdict(sheet, Caller::Terminal))
+}
+
+// The same for the quote desk, whose ceiling is lower: the count of a sheet's items, or a refusal.
+#[no_mangle]
+pub extern "C" fn snow_desk_verdict(sheet: &[u8]) -> u32
+    ensures { λ r. ⌜ r ≡ verdictCode (sheetVerdict desk (now (sheet .entry))) ⌝ }
+{
+    answer_codes::verdict(verdict(sheet, Caller::Desk))
 }
 
 // The count of segments of an item's arrangement, which are at the front of the slice; or a refusal, which alters nothing.

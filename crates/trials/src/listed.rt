@@ -4,17 +4,22 @@ ghost use mathlib.Core.Bool.{true};
 ghost use Prim.Native.Nat.{_≤_};
 ghost use lib.ListN.{length};
 ghost use Rattle.listing.specs.Listing.{listing, listRoom};
+use crate::desk;
+use sheet::Caller;
 use sheet::Verdict;
 
-// Whether the library refuses the sheet, and whether its listing of it is the stored text.
+// Whether the library refuses the sheet, and whether its listing of it is the stored text; whether the sheet is inside the
+// quote desk's ceiling, and whether the desk reads it as it must.
 pub struct Outcome {
     pub refused: bool,
     pub agrees: bool,
+    pub inside: bool,
+    pub desk_agrees: bool,
 }
 
 // Whether the library refuses the sheet.
 fn refused(sheet: &[u8]) -> bool {
-    match sheet::verdict(sheet) {
+    match sheet::verdict(sheet, Caller::Terminal) {
         Verdict::Accepted(_) => false,
         Verdict::Refused(_, _) => true,
     }
@@ -40,5 +45,7 @@ pub fn compare(sheet: &[u8], text: &[u8], room: &mut [u8]) -> Outcome
     Outcome {
         refused: refused(sheet),
         agrees: agrees(sheet, text, room),
+        inside: desk::inside(sheet),
+        desk_agrees: desk::agrees(sheet),
     }
 }

@@ -1,5 +1,7 @@
-// Reads stored sheets, sound and damaged, and holds the library's listing of each against the text stored with it.
+// Reads stored sheets, sound and damaged, and holds the library's listing of each against the text stored with it, and the
+// quote desk's reading of it against a terminal's.
 // The file has one record after the other: the sizes of the sheet and of its text, the sheet, the text.
+mod desk;
 mod listed;
 mod records;
 mod report;

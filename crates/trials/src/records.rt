@@ -9,12 +9,15 @@ use crate::report;
 const SIZES: usize = 8;
 
 // What the whole records came to: how many bytes of the file they take, how many sheets they are, how many of
-// these the library refuses and how many agree, and the end of the lines that were put.
+// these the library refuses and how many agree, how many are inside the quote desk's ceiling and how many the desk
+// reads as it must, and the end of the lines that were put.
 struct Totals {
     taken: usize,
     sheets: usize,
     refused: usize,
     agree: usize,
+    inside: usize,
+    desk: usize,
     end: usize,
 }
 
@@ -52,6 +55,8 @@ fn walk(bytes: &[u8], room: &mut [u8], out: &mut [u8]) -> Totals
     let mut sheets = 0;
     let mut refused = 0;
     let mut agree = 0;
+    let mut inside = 0;
+    let mut desk = 0;
     let mut end = 0;
     while SIZES <= bytes.len() - taken {
         let record = &bytes[taken..];
@@ -65,6 +70,8 @@ fn walk(bytes: &[u8], room: &mut [u8], out: &mut [u8]) -> Totals
         end = report::put_outcome(out, end, outcome, sheets);
         refused += one(outcome.refused);
         agree += one(outcome.agrees);
+        inside += one(outcome.inside);
+        desk += one(outcome.desk_agrees);
         sheets += 1;
         taken += SIZES + both;
     }
@@ -73,6 +80,8 @@ fn walk(bytes: &[u8], room: &mut [u8], out: &mut [u8]) -> Totals
         sheets: sheets,
         refused: refused,
         agree: agree,
+        inside: inside,
+        desk: desk,
         end: end,
     }
 }
@@ -87,5 +96,6 @@ pub fn compare(bytes: &[u8], longer: bool, room: &mut [u8], out: &mut [u8]) -> u
     let totals = walk(bytes, room, out);
     let damaged = longer | (totals.taken < bytes.len());
     let end = report::put_damaged(out, totals.end, damaged, totals.sheets);
-    report::put_counts(out, end, totals.sheets, totals.refused, totals.agree)
+    let counted = report::put_counts(out, end, totals.sheets, totals.refused, totals.agree);
+    report::put_desk(out, counted, totals.inside, totals.desk)
 }

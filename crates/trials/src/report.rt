@@ -3,8 +3,8 @@ ghost use Prim.Native.Nat.{_≤_};
 ghost use lib.ListN.{length};
 use crate::listed::Outcome;
 
-// Enough room for a line on a record that differs and the last two lines.
-const LAST_LINES: usize = 160;
+// Enough room for a line on a record that differs and the last three lines.
+const LAST_LINES: usize = 208;
 
 // Puts bytes at a place, where they fit.
 fn put(out: &mut [u8], at: usize, text: &[u8]) -> usize
@@ -37,12 +37,12 @@ fn put_line(out: &mut [u8], at: usize, word: &[u8], record: usize) -> usize
     put(out, after, b"\n")
 }
 
-// Puts the line on a record that differs, where that leaves room for the last two lines.
+// Puts the line on a record that differs, in its listing or at the desk, where that leaves room for the last three lines.
 pub fn put_outcome(out: &mut [u8], at: usize, outcome: Outcome, record: usize) -> usize
     requires { ⌜ at ≤ length (now out) ⌝ }
     ensures { λ r. ⌜ r ≤ length (now (out .exit)) ⌝ }
 {
-    if !outcome.agrees & (LAST_LINES <= out.len() - at) {
+    if !(outcome.agrees & outcome.desk_agrees) & (LAST_LINES <= out.len() - at) {
         return put_line(out, at, b"DIFFERENT ", record);
     }
     at
@@ -67,4 +67,13 @@ pub fn put_counts(out: &mut [u8], at: usize, sheets: usize, refused: usize, agre
     let a = put_count(out, at, b"SHEETS ", sheets);
     let b = put_count(out, a, b" REFUSED ", refused);
     put_line(out, b, b" AGREE ", agree)
+}
+
+// Puts the line on the quote desk: the sheets inside its ceiling, and those that it reads as it must.
+pub fn put_desk(out: &mut [u8], at: usize, inside: usize, agree: usize) -> usize
+    requires { ⌜ at ≤ length (now out) ⌝ }
+    ensures { λ r. ⌜ r ≤ length (now (out .exit)) ⌝ }
+{
+    let a = put_count(out, at, b"DESK ", inside);
+    put_line(out, a, b" AGREE ", agree)
 }

@@ -217,10 +217,29 @@ impl Caller {
         Ok(text[..bytes].iter().filter(|&&byte| byte == b'\n').count())
     }
 
+    /// What the quote desk answers: the terminal's verdict, or 1 where the sheet has more than 8
+    /// items or 2,048 bytes.
+    fn ask_desk(&mut self, verdict: Answer) {
+        let answer = snow::desk_verdict(&self.sheet);
+        println!("DESK: {}", answer.with_unit("items"));
+        let items = self
+            .sheet
+            .first_chunk()
+            .map_or(0, |&n| u16::from_le_bytes(n));
+        let inside = items <= 8 && self.sheet.len() <= 2_048;
+        let expected = if inside {
+            verdict
+        } else {
+            Answer::refused(1, 0)
+        };
+        self.check(answer == expected, "the desk reads otherwise", 0);
+    }
+
     fn ask(&mut self) -> io::Result<()> {
         let mut lines = 1; // the header, or the line REFUSED
         let verdict = snow::verdict(&self.sheet);
         println!("VERDICT: {}", verdict.with_unit("items"));
+        self.ask_desk(verdict);
         if let Some(count) = verdict.value() {
             let count = count as usize;
             for item in 1..count {

@@ -1,4 +1,4 @@
-//! The seven calls as safe functions.
+//! The eight calls as safe functions.
 
 /// A number of bytes that holds the listing of any sheet.
 pub const LIST_ROOM: usize = 267_373;
@@ -60,6 +60,7 @@ impl From<u32> for Answer {
 mod ffi {
     extern "C" {
         pub fn snow_verdict(sheet: *const u8, length: usize) -> u32;
+        pub fn snow_desk_verdict(sheet: *const u8, length: usize) -> u32;
         pub fn snow_make(
             sheet: *const u8,
             length: usize,
@@ -86,6 +87,12 @@ mod ffi {
 pub fn verdict(sheet: &[u8]) -> Answer {
     // SAFETY: a slice has the length given with it.
     unsafe { ffi::snow_verdict(sheet.as_ptr(), sheet.len()) }.into()
+}
+
+/// The same for the quote desk, which takes at most 8 items and 2,048 bytes.
+pub fn desk_verdict(sheet: &[u8]) -> Answer {
+    // SAFETY: a slice has the length given with it.
+    unsafe { ffi::snow_desk_verdict(sheet.as_ptr(), sheet.len()) }.into()
 }
 
 /// Writes the segments of an arrangement at the front of `out`, four numbers each; their count.

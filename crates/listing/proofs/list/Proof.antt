@@ -1,5 +1,6 @@
 use mathlib.Core.Path.{_≡_, sym, ap, _∙_}
-use Rattle.pairs.specs.Pairs.{accepted, refused, terminals, verdictMeans}
+use Rattle.ceilings.specs.Ceilings.{terminals}
+use Rattle.pairs.specs.Pairs.{accepted, refused, verdictMeans}
 use Rattle.sheet.specs.Sheet.{sheetVerdict}
 use Rattle.sheet.proofs.Kept.{sheet-named}
 use Rattle.listing.specs.Listing.{listingBy}

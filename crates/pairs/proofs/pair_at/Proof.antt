@@ -2,8 +2,8 @@ use Prim.Native.Nat.{_+_, _*_}
 use denote.Ref.{now}
 use mathlib.Core.Path.{ap, _∙_}
 use native.Mathlib.Omega.{arith}
-use Rattle.pairs.proofs.Joining.{word-split}
-use Rattle.pairs.specs.declared.words.Pair.{Pair}
+use Rattle.pairs.proofs.Words.{word-split}
+use Rattle.pair_words.specs.declared.Pair.{Pair}
 use borrow.Author.Needs.{needs}
 use Rattle.pairs.proofs.pair_at.Statement.{statement}
 use Rattle.pairs.proofs.pair_at.Tie as tie

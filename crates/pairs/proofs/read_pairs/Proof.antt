@@ -1,11 +1,11 @@
 use mathlib.Core.Bool.{true}
 use mathlib.Core.Path.{_≡_, _∙_}
-use Rattle.pairs.specs.Pairs.{fits}
-use Rattle.pairs.proofs.Turns.{fitting, too-short, outside, inside}
+use Rattle.ceilings.proofs.Limits.{fitting}
+use Rattle.ceilings.specs.Ceilings.{fits}
+use Rattle.pairs.proofs.Turns.{too-short, outside, inside}
 use borrow.Author.Tests.{not-true, not-false}
 use denote.Ref.{now}
 use lib.ListN.{length}
-use mathlib.Core.Path.{_∙_}
 use borrow.Author.Needs.{needs}
 use Rattle.pairs.proofs.read_pairs.Statement.{statement}
 use Rattle.pairs.proofs.read_pairs.Tie as tie

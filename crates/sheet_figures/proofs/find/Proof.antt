@@ -1,6 +1,7 @@
 use mathlib.Core.Path.{_≡_, sym, ap, _∙_}
 use denote.Ref.{now}
-use Rattle.pairs.specs.Pairs.{accepted, terminals}
+use Rattle.ceilings.specs.Ceilings.{terminals}
+use Rattle.pairs.specs.Pairs.{accepted}
 use Rattle.sheet.specs.Sheet.{place, locatedMeans}
 use Rattle.sheet_figures.proofs.Sound.{found-placed, found-refused}
 use Rattle.sheet.proofs.Kept.{located-in}

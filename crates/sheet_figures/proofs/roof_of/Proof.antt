@@ -1,7 +1,7 @@
 use mathlib.Core.Path.{sym, ap, _∙_}
 use Rattle.item_forms.specs.declared.Item.{Item}
-use Rattle.sheet.specs.Figures.{roofBy}
-use Rattle.sheet.proofs.Places.{later-misplaced}
+use Rattle.item_rules.specs.Figures.{roofBy}
+use Rattle.item_rules.proofs.Places.{later-misplaced}
 use borrow.Author.Needs.{needs}
 use Rattle.sheet_figures.proofs.roof_of.Statement.{statement}
 use Rattle.sheet_figures.proofs.roof_of.Tie as tie

@@ -1,8 +1,8 @@
 use mathlib.Core.Path.{sym, ap, _∙_}
 use Rattle.item_forms.specs.declared.Item.{Item}
-use Rattle.sheet.specs.Figures.{siteBy}
-use Rattle.sheet.specs.Sheet.{ruleNumber}
-use Rattle.sheet.proofs.Places.{first-misplaced}
+use Rattle.item_rules.specs.Figures.{siteBy}
+use Rattle.item_rules.specs.Rules.{ruleNumber}
+use Rattle.item_rules.proofs.Places.{first-misplaced}
 use borrow.Author.Needs.{needs}
 use Rattle.sheet_figures.proofs.site_of.Statement.{statement}
 use Rattle.sheet_figures.proofs.site_of.Tie as tie

@@ -2,7 +2,8 @@ use native.Mathlib.Nat.{add-sub-cancel-left}
 use Prim.Native.Nat.{_+_, _≤_}
 use lib.ListN.{length}
 use Rattle.sheet.proofs.Kept.{located}
-use Rattle.pairs.specs.Pairs.{Answer, accepted, terminals}
+use Rattle.ceilings.specs.Ceilings.{ceilingOf}
+use Rattle.pairs.specs.Pairs.{Answer, accepted}
 use Rattle.sheet.specs.Sheet.{Place, place, partAt, locatedMeans}
 use denote.Ref.{now}
 use native.Mathlib.Omega.{arith}
@@ -13,7 +14,8 @@ use Rattle.sheet.proofs.reader.item.Tie as tie
 
 found :
     (c : tie.After-known-told)
-    → place terminals (now (c .before .before .before .before .before .args .s)) (c .before .before .before .before .before .args .index)
+    → place (ceilingOf (c .before .before .before .before .before .args .caller)) (now (c .before .before .before .before .before .args .s))
+    (c .before .before .before .before .before .args .index)
     ≡ accepted (record { start = c .before .offset .given .0 .0; bytes = c .before .offset .given .0 .1 .0 })
 found c = sym (c .before .before .before .locate .ensures) ∙ ap locatedMeans (c .before .offset .given .1)
 

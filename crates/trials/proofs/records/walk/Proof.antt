@@ -9,17 +9,19 @@ use Rattle.trials.proofs.records.walk.Statement.{statement}
 use Rattle.trials.proofs.records.walk.Tie as tie
 
 abbrev Inv-loop : tie.InvT-loop
-Inv-loop bytes room₀ out₀ taken₀ sheets₀ refused₀ agree₀ end₀ room out taken sheets refused agree end =
+Inv-loop bytes room₀ out₀ taken₀ sheets₀ refused₀ agree₀ inside₀ desk₀ end₀ room out taken sheets refused agree inside desk end =
     (taken ≤ length bytes)
     × (sheets ≤ taken)
     × (refused ≤ sheets)
     × (agree ≤ sheets)
+    × (inside ≤ sheets)
+    × (desk ≤ sheets)
     × (end ≤ length out)
     × (length out ≡ length out₀)
     × (length room ≡ length room₀)
 
 abbrev μ-loop : tie.MeasureT-loop
-μ-loop bytes room₀ out₀ taken₀ sheets₀ refused₀ agree₀ end₀ room out taken sheets refused agree end =
+μ-loop bytes room₀ out₀ taken₀ sheets₀ refused₀ agree₀ inside₀ desk₀ end₀ room out taken sheets refused agree inside desk end =
     length bytes - taken
 
 loop-holds : tie.Need-loop-holds Inv-loop μ-loop
@@ -85,6 +87,18 @@ one-requires-2 c κs = search needs
 add-agree : tie.Need-add-agree Inv-loop μ-loop
 add-agree c = search needs
 
+one-requires-3 : tie.Need-one-requires-3 Inv-loop μ-loop
+one-requires-3 c κs = search needs
+
+add-inside : tie.Need-add-inside Inv-loop μ-loop
+add-inside c = search needs
+
+one-requires-4 : tie.Need-one-requires-4 Inv-loop μ-loop
+one-requires-4 c κs = search needs
+
+add-desk : tie.Need-add-desk Inv-loop μ-loop
+add-desk c = search needs
+
 add-sheets : tie.Need-add-sheets Inv-loop μ-loop
 add-sheets c = search needs
 
@@ -145,6 +159,10 @@ walk-spec =
     add-refused
     one-requires-2
     add-agree
+    one-requires-3
+    add-inside
+    one-requires-4
+    add-desk
     add-sheets
     add-taken
     add-taken-2
