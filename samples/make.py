@@ -74,6 +74,7 @@ HALL = pitched((20.0, 40.0), (9_000, 6_000))
 SAW = (60.0, 25.0, 2_400, 7_600)
 COAST = [(25.0, 25.0, 6_000, 5_500), (25.0, 25.0, 5_000, 5_000), (25.0, 25.0, 5_500, 6_000)]
 DEEP = [(35.0, 45.0, 4_500, 4_000), (45.0, 35.0, 4_000, 4_500)]
+SHEDS = [monopitch(10.0, width) for width in range(3_000, 7_000, 500)]
 
 SHEETS = {
     "scope": sheet(site(1_000, altitude=500), monopitch(30.0, 5_000, guard=1)),
@@ -149,6 +150,10 @@ SHEETS = {
         drift_roof(DEEP, (3_000, 40_000)),
         multi_span(*DEEP),
     ),
+    # The quote desk's ceiling: 8 items, 2,048 bytes
+    "desk_full": sheet(site(1_000), *SHEDS[:7]).ljust(2_048, b"\xee"),
+    "desk_bytes": sheet(site(1_000), *SHEDS[:7]).ljust(2_049, b"\xee"),
+    "desk_items": sheet(site(1_000), *SHEDS),
     # Refused
     "refused_pairs": sheet(site(1_500), HALL)[:9],
     "refused_cut": sheet(site(1_500), HALL)[:-3],
