@@ -44,7 +44,7 @@ below-terminals Desk = record { items = omega arith; bytes = omega arith }
 still-kept : (x low high : ℕ) → low ≤ high → leb x low ≡ true → leb x high ≡ true
 still-kept x low high h e = le-leb x high (omega (arith, leb-true x low e))
 
--- of two limits, each lower or higher, among other tests
+-- two tests against lower limits, among others, are the two in front of the tests against higher limits
 by-limits :
     (a b a' b' p q r : Bool) → (a ≡ true → a' ≡ true) → (b ≡ true → b' ≡ true)
     → (p && a && (q && b) && r) ≡ (a && b && (p && a' && (q && b') && r))

@@ -1,4 +1,4 @@
-// Who reads a sheet, and the most that its sheets may have.
+// Who reads a sheet, and the most that a sheet of each may have.
 ghost use mathlib.Core.Path.{_≡_};
 ghost use Rattle.ceilings.specs.Ceilings.{ceilingOf};
 

@@ -1,11 +1,11 @@
 -- The count and the pairs of a sheet, and the verdict on them: refusals 1 and 2.
 use Prim.Native.Nat.{ℕ, zero, suc, _+_, _*_}
-use mathlib.Core.Bool.{Bool, cond, _&&_}
+use mathlib.Core.Bool.{cond, _&&_}
 use mathlib.Core.List.{List}
 use lib.Dec.{leb, eqb}
 use lib.ListN.{length}
 use Rattle.little_endian.specs.Numbers.{le16}
-use Rattle.ceilings.specs.Ceilings.{fits, inside}
+use Rattle.ceilings.specs.Ceilings.{fits}
 use Rattle.ceilings.specs.declared.Ceiling.{Ceiling}
 use Rattle.pairs.specs.declared.Verdict.{Verdict}
 use Rattle.pairs.specs.declared.Verdict.the-variants.{Accepted, Refused}
@@ -30,10 +30,6 @@ size s i = le16 s (2 + 4 * i + 2)
 abbrev pub earliest : List ℕ → ℕ → ℕ
 earliest s zero = 2 + 4 * count s
 earliest s (suc i) = offset s i + size s i
-
--- document 02, A6: "A sheet inside the desk's ceiling", of any ceiling
-abbrev pub sheetInside : Ceiling → List ℕ → Bool
-sheetInside ceiling s = inside ceiling (length s) (count s)
 
 -- pair i keeps the rule of offsets, and its item does not run past the sheet: otherwise 2
 unfoldable pub pairNumber : List ℕ → ℕ → ℕ

@@ -12,9 +12,8 @@ use native.Mathlib.Omega.{arith}
 use Rattle.figures.proofs.Laws.{both}
 use Rattle.items.specs.Items.{content}
 use Rattle.item_rules.specs.Rules.{ruleOf}
-use Rattle.ceilings.proofs.Limits.{Fitting, fitting, below-terminals}
-use Rattle.ceilings.specs.Ceilings.{ceilingOf, fits}
-use Rattle.ceilings.specs.declared.Caller.{Caller}
+use Rattle.ceilings.proofs.Limits.{Fitting, fitting}
+use Rattle.ceilings.specs.Ceilings.{fits}
 use Rattle.ceilings.specs.declared.Ceiling.{Ceiling}
 use Rattle.pairs.specs.Pairs.{Answer, accepted, refused, count, offset, size, earliest, pairNumber, inTurn, pairsVerdict, verdictMeans, verdictCount}
 use Rattle.pairs.specs.declared.Verdict.{Verdict}
@@ -98,10 +97,10 @@ pub sheet-kept : (ceiling : Ceiling) (s : List ℕ) (n : ℕ) → sheetVerdict c
 unfolding sheetVerdict
 sheet-kept ceiling s n e = kept-by ceiling s n (pairsVerdict ceiling s) refl e
 
--- an answer of `verdict` counts no more items than a terminal's sheet may have
-pub few-counted : (caller : Caller) (s : List ℕ) (v : Verdict) → verdictMeans v ≡ sheetVerdict (ceilingOf caller) s → verdictCount v ≤ 32
-few-counted caller s (Refused k i) e = omega arith
-few-counted caller s (Accepted n) e = omega (arith, sheet-kept (ceilingOf caller) s n (sym e) .pairs .fit .items, below-terminals caller .items)
+-- an answer of `verdict` counts no more items than the ceiling has
+pub few-counted : (ceiling : Ceiling) (s : List ℕ) (v : Verdict) → verdictMeans v ≡ sheetVerdict ceiling s → verdictCount v ≤ ceiling .items
+few-counted ceiling s (Refused k i) e = omega arith
+few-counted ceiling s (Accepted n) e = sheet-kept ceiling s n (sym e) .pairs .fit .items
 
 -- each item of an accepted sheet lies in it and breaks no rule
 pub item-in : (ceiling : Ceiling) (s : List ℕ) (n : ℕ) → sheetVerdict ceiling s ≡ accepted n → (i : ℕ) → i < n → ItemIn s i

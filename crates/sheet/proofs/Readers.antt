@@ -10,9 +10,10 @@ use Rattle.ceilings.specs.Ceilings.{fits, ceilingOf}
 use Rattle.ceilings.specs.declared.Caller.{Caller}
 use Rattle.ceilings.specs.declared.Caller.the-variants.{Terminal, Desk}
 use Rattle.ceilings.specs.declared.Ceiling.{Ceiling}
-use Rattle.pairs.specs.Pairs.{Answer, accepted, refused, count, sheetInside, pairNumber, inTurn, pairsVerdict, verdictMeans}
+use Rattle.pairs.specs.Pairs.{Answer, refused, count, pairNumber, inTurn, pairsVerdict, verdictMeans}
 use Rattle.pairs.specs.declared.Verdict.{Verdict}
 use Rattle.pairs.specs.declared.Verdict.the-variants.{Accepted, Refused}
+use Rattle.sheet.specs.Readers.{sheetInside, Read}
 use Rattle.sheet.specs.Sheet.{Place, itemNumber, andThen, sheetVerdict, placeBy, place, partAt, locatedMeans}
 use Rattle.sheet.specs.declared.reader.Located.{Located}
 use Rattle.sheet.specs.declared.reader.Located.the-variants.{At, Nowhere}
@@ -62,33 +63,21 @@ module _ (low high : Ceiling) (h : Below low high) (s : List ℕ) where
     pub lower-part : partAt (place low s i) s ≡ cond (sheetInside low s) (partAt (place high s i) s) []
     lower-part = ap (λ (p : Answer Place). partAt p s) lower-place ∙ part-tested (sheetInside low s) (place high s i) s
 
--- what the reader's calls answer to a sheet: the verdict, where each item lies, and each item
-pub record Read (s : List ℕ) (ceiling : Ceiling) (v : Answer ℕ) (at : ℕ → Answer Place) (item : ℕ → List ℕ) : Type 0 where
-  pub verdict : sheetVerdict ceiling s ≡ v
-  pub places : (i : ℕ) → place ceiling s i ≡ at i
-  pub items : (i : ℕ) → partAt (place ceiling s i) s ≡ item i
+  lower-read :
+      (b : Bool) → sheetInside low s ≡ b
+      → Read s low (oneUnless b (sheetVerdict high s)) (λ i. oneUnless b (place high s i)) (λ i. cond b (partAt (place high s i) s) [])
+  lower-read b e = record { verdict = rw e at lower-verdict; places = λ i. rw e at (lower-place i); items = λ i. rw e at (lower-part i) }
 
 -- "A sheet inside the desk's ceiling gets the same answer from both"
 pub same-inside :
     (s : List ℕ) → sheetInside (ceilingOf Desk) s ≡ true
     → Read s (ceilingOf Desk) (sheetVerdict (ceilingOf Terminal) s) (place (ceilingOf Terminal) s) (λ i. partAt (place (ceilingOf Terminal) s i) s)
-same-inside s e =
-    record {
-      verdict = rw e at (lower-verdict _ _ (below-terminals Desk) s);
-      places = λ i. rw e at (lower-place _ _ (below-terminals Desk) s i);
-      items = λ i. rw e at (lower-part _ _ (below-terminals Desk) s i);
-    }
+same-inside s e = lower-read _ _ (below-terminals Desk) s true e
 
 -- "1 when the sheet passes the ceiling of the caller that reads it, in its old place": item 0, and no item is handed back
 pub one-outside :
     (caller : Caller) (s : List ℕ) → sheetInside (ceilingOf caller) s ≡ false → Read s (ceilingOf caller) (refused 1 0) (λ i. refused 1 0) (λ i. [])
-one-outside caller s e =
-    let same : Below (ceilingOf caller) (ceilingOf caller) = record { items = omega arith; bytes = omega arith } in
-    record {
-      verdict = rw e at (lower-verdict _ _ same s);
-      places = λ i. rw e at (lower-place _ _ same s i);
-      items = λ i. rw e at (lower-part _ _ same s i);
-    }
+one-outside caller s e = lower-read _ _ (below-terminals caller) s false e
 
 -- an answer of `verdict`, and one of `locate`, by what it says
 one-verdict : (a b : Verdict) → verdictMeans a ≡ verdictMeans b → a ≡ b

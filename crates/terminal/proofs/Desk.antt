@@ -7,8 +7,9 @@ use Rattle.answer_codes.specs.Codes.{refusalCode, verdictCode}
 use Rattle.ceilings.proofs.Limits.{below-terminals}
 use Rattle.ceilings.specs.Ceilings.{terminals, desk}
 use Rattle.ceilings.specs.declared.Caller.the-variants.{Desk}
-use Rattle.pairs.specs.Pairs.{Answer, refused, sheetInside}
+use Rattle.pairs.specs.Pairs.{Answer, refused}
 use Rattle.sheet.proofs.Readers.{lower-verdict}
+use Rattle.sheet.specs.Readers.{sheetInside}
 use Rattle.sheet.specs.Sheet.{sheetVerdict}
 
 code-tested : (b : Bool) (v : Answer ℕ) → verdictCode (cond b v (refused 1 0)) ≡ cond b (verdictCode v) 2147549184

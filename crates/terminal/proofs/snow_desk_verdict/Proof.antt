@@ -1,8 +1,8 @@
 use mathlib.Core.Path.{ap, _∙_}
 use Rattle.sheet.proofs.Kept.{few-counted}
-use Rattle.ceilings.specs.declared.Caller.the-variants.{Desk}
 use Rattle.answer_codes.specs.Codes.{verdictCode}
 use borrow.Author.Needs.{needs}
+use native.Mathlib.Omega.{arith}
 use Rattle.terminal.proofs.snow_desk_verdict.Statement.{statement}
 use Rattle.terminal.proofs.snow_desk_verdict.Tie as tie
 
@@ -10,7 +10,7 @@ verdict-requires : tie.Need-verdict-requires
 verdict-requires c κs = search needs
 
 verdict-requires-2 : tie.Need-verdict-requires-2
-verdict-requires-2 c κs = few-counted Desk _ (c .verdict .result) (c .verdict .ensures)
+verdict-requires-2 c κs = let few = few-counted _ _ (c .verdict .result) (c .verdict .ensures) in omega (arith, few)
 
 returns : tie.Need-returns
 returns c = c .verdict2 .ensures ∙ ap verdictCode (c .before .verdict .ensures)

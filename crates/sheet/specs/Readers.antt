@@ -1,0 +1,20 @@
+-- What a sheet's readers answer, each under its ceiling: document 02, A6.
+use Prim.Native.Nat.{ℕ}
+use mathlib.Core.Bool.{Bool}
+use mathlib.Core.List.{List}
+use mathlib.Core.Path.{_≡_}
+use lib.ListN.{length}
+use Rattle.ceilings.specs.Ceilings.{inside}
+use Rattle.ceilings.specs.declared.Ceiling.{Ceiling}
+use Rattle.pairs.specs.Pairs.{Answer, count}
+use Rattle.sheet.specs.Sheet.{Place, sheetVerdict, place, partAt}
+
+-- "A sheet inside the desk's ceiling", of any ceiling
+abbrev pub sheetInside : Ceiling → List ℕ → Bool
+sheetInside ceiling s = inside ceiling (length s) (count s)
+
+-- the reader's answers to a sheet under a ceiling: the verdict, where each item lies, and each item
+pub record Read (s : List ℕ) (ceiling : Ceiling) (v : Answer ℕ) (at : ℕ → Answer Place) (item : ℕ → List ℕ) : Type 0 where
+  pub verdict : sheetVerdict ceiling s ≡ v
+  pub places : (i : ℕ) → place ceiling s i ≡ at i
+  pub items : (i : ℕ) → partAt (place ceiling s i) s ≡ item i
