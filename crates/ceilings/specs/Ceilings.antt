@@ -20,10 +20,11 @@ abbrev pub ceilingOf : Caller → Ceiling
 ceilingOf Terminal = terminals
 ceilingOf Desk = desk
 
--- a sheet's bytes and its n within their limits, and the pairs fit in the sheet: otherwise 1
+-- a sheet's bytes and its n within their limits, and the pairs fit in the sheet: otherwise 1. Document 02, A6:
+-- "1 when the sheet passes the ceiling of the caller that reads it"
 abbrev pub fits : Ceiling → ℕ → ℕ → Bool
 fits ceiling bytes n = within 2 (ceiling .bytes) bytes && within 1 (ceiling .items) n && leb (2 + 4 * n) bytes
 
--- "inside the desk's ceiling": a sheet's bytes and its n pass neither limit of a ceiling
+-- "A sheet inside the desk's ceiling": its bytes and its n pass neither limit of a ceiling
 abbrev pub inside : Ceiling → ℕ → ℕ → Bool
 inside ceiling bytes n = leb bytes (ceiling .bytes) && leb n (ceiling .items)

@@ -23,10 +23,14 @@ read caller n bytes = pairsVerdict (ceilingOf caller) (sheetOf n bytes)
 pub bytes-of : (length (sheetOf 7 2047) ∷ length (sheetOf 8 2048) ∷ length (sheetOf 9 2049) ∷ []) ≡ (2047 ∷ 2048 ∷ 2049 ∷ [])
 bytes-of = refl
 
-pub desk-reads : (read Desk 7 2047 ∷ read Desk 8 2048 ∷ read Desk 9 2048 ∷ read Desk 8 2049 ∷ []) ≡ (accepted 7 ∷ accepted 8 ∷ refused 1 0 ∷ refused 1 0 ∷ [])
+pub desk-reads :
+    (read Desk 7 2047 ∷ read Desk 8 2048 ∷ read Desk 9 2048 ∷ read Desk 8 2049 ∷ [])
+    ≡ (accepted 7 ∷ accepted 8 ∷ refused 1 0 ∷ refused 1 0 ∷ [])
 unfolding pairsVerdict inTurn pairNumber
 desk-reads = refl
 
-pub terminal-reads : (read Terminal 8 2048 ∷ read Terminal 9 2048 ∷ read Terminal 8 2049 ∷ []) ≡ (accepted 8 ∷ accepted 9 ∷ accepted 8 ∷ [])
+pub terminal-reads :
+    (read Terminal 8 2048 ∷ read Terminal 9 2048 ∷ read Terminal 8 2049 ∷ [])
+    ≡ (accepted 8 ∷ accepted 9 ∷ accepted 8 ∷ [])
 unfolding pairsVerdict inTurn pairNumber
 terminal-reads = refl

@@ -40,7 +40,7 @@ unfoldable pub inTurn : (ℕ → ℕ) → ℕ → ℕ → ℕ → Answer ℕ
 inTurn number n i zero = accepted n
 inTurn number n i (suc k) = cond (eqb (number i) 0) (inTurn number n (suc i) k) (refused (number i) i)
 
--- "Order: 1; 2 over all pairs in turn, the first bad one named"
+-- "Order: 1; 2 over all pairs in turn, the first bad one named"; document 02, A6: 1 "in its old place"
 unfoldable pub pairsVerdict : Ceiling → List ℕ → Answer ℕ
 pairsVerdict ceiling s = cond (fits ceiling (length s) (count s)) (inTurn (pairNumber s) (count s) 0 (count s)) (refused 1 0)
 

@@ -16,6 +16,8 @@ abbrev read : Caller → ℕ → Answer ℕ
 read caller n = sheetVerdict (ceilingOf caller) (unsound n)
 
 -- 1 in its old place, before 2: 8 pairs are the desk's to read, 9 are too many for it
-pub one-before-two : (read Desk 8 ∷ read Terminal 8 ∷ read Desk 9 ∷ read Terminal 9 ∷ []) ≡ (refused 2 0 ∷ refused 2 0 ∷ refused 1 0 ∷ refused 2 0 ∷ [])
+pub one-before-two :
+    (read Desk 8 ∷ read Terminal 8 ∷ read Desk 9 ∷ read Terminal 9 ∷ [])
+    ≡ (refused 2 0 ∷ refused 2 0 ∷ refused 1 0 ∷ refused 2 0 ∷ [])
 unfolding sheetVerdict pairsVerdict inTurn pairNumber
 one-before-two = refl

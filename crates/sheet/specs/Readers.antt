@@ -9,11 +9,11 @@ use Rattle.ceilings.specs.declared.Ceiling.{Ceiling}
 use Rattle.pairs.specs.Pairs.{Answer, count}
 use Rattle.sheet.specs.Sheet.{Place, sheetVerdict, place, partAt}
 
--- "A sheet inside the desk's ceiling", of any ceiling
+-- "A sheet inside the desk's ceiling gets the same answer from both": a sheet inside a ceiling
 abbrev pub sheetInside : Ceiling → List ℕ → Bool
 sheetInside ceiling s = inside ceiling (length s) (count s)
 
--- the reader's answers to a sheet under a ceiling: the verdict, where each item lies, and each item
+-- "the same answer": what the reader answers to a sheet under a ceiling, the verdict, where each item lies, and each item
 pub record Read (s : List ℕ) (ceiling : Ceiling) (v : Answer ℕ) (at : ℕ → Answer Place) (item : ℕ → List ℕ) : Type 0 where
   pub verdict : sheetVerdict ceiling s ≡ v
   pub places : (i : ℕ) → place ceiling s i ≡ at i
