@@ -38,14 +38,17 @@ extern "C" {
  * 11 a slice shorter than four numbers a segment
  * 12 a station past the roof's end, or an index not below the count
  * 13 an arrangement that the roof hasn't in this situation
- * 14 a map site's region outside 1..8 or its zone outside 1..5; 15 its ground load outside 100..25,000 N/m2 */
+ * 14 a map site's region outside 1..8 or its zone outside 1..5; 15 its ground load outside 100..25,000 N/m2
+ * 16 a roof of kind 10 whose upper item is not there or not of kind 2, 3 or 10
+ * 17 a roof of kind 10 that is met again when upper items are followed from it */
 #define SNOW_NUMBER(refusal) (((uint32_t)(refusal) - SNOW_REFUSED) / 65536u)
 #define SNOW_ITEM(refusal) ((uint32_t)(refusal) % 65536u)
 
 /* A number of bytes that holds the listing of any sheet. */
 #define SNOW_LIST_ROOM 267373
 
-/* The count of a sheet's items, or a refusal (1 to 10, 14, 15; a map site's 14 and 15 come after its 6 and 7). */
+/* The count of a sheet's items, or a refusal (1 to 10, 14 to 17; a map site's 14 and 15 come after its 6 and 7, 16 after
+ * every item's own rules and 17 after 16). */
 uint32_t snow_verdict(const uint8_t *sheet, size_t length);
 
 /* The same for the quote desk, which takes at most 8 items and 2,048 bytes: a sheet that has more is refused by 1, item 0,
@@ -54,28 +57,30 @@ uint32_t snow_desk_verdict(const uint8_t *sheet, size_t length);
 
 /* Codes of arrangements: 1, 2, 3 persistent snow; 11, 12, 13 the same shapes with exceptional falls; 30 + j, at most 45,
  * an exceptional drift in valley j of a roof of kind 9. Situations (Annex A): 0 case A, 1 B1, 2 B2, 3 B3. Codes 12 and 13
- * belong to situation 1, 11 to 1 and 3, drifts to 2 and 3, where kind 9 has no code 2. */
+ * belong to situation 1, 11 to 1 and 3, drifts to 2 and 3, where kind 9 has no code 2. Kind 10
+ * has the codes of kind 6. */
 
 /* Writes the segments of an item's arrangement at the front of out, four numbers each: start, end, load, load.
  * Numbers behind them keep their values. 128 numbers are room for any arrangement.
- * The count of segments, or a refusal (1 to 10, 14, 15, 12 for the index, 13, 11), which alters nothing. The site,
+ * The count of segments, or a refusal (1 to 10, 14 to 17, 12 for the index, 13, 11), which alters nothing. The site,
  * item 0, has no arrangement: 13. */
 uint32_t snow_make(const uint8_t *sheet, size_t length, size_t item, uint8_t code, uint32_t *out, size_t room);
 
 /* The load at a station, in whole N/m2, never below the exact rule and less than 1.2 N/m2 above it, or a refusal (1 to 10,
- * 14, 15, 12 for the index, 13, 12 for the station). */
+ * 14 to 17, 12 for the index, 13, 12 for the station). */
 uint32_t snow_load(const uint8_t *sheet, size_t length, size_t item, uint8_t code, uint32_t station);
 
-/* The overhang at the eave of a slope (1 left or only, 2 right), in N/m, SNOW_NONE, or a refusal (1 to 10, 14, 15,
+/* The overhang at the eave of a slope (1 left or only, 2 right), in N/m, SNOW_NONE, or a refusal (1 to 10, 14 to 17,
  * 12 for the index). Either eave of a pitched roof has that of the larger of its two slopes' loads. The site, item 0,
  * has none. */
 uint32_t snow_overhang(const uint8_t *sheet, size_t length, size_t item, uint8_t slope);
 
-/* The force at the guard of a slope, from that slope's own load, in N/m, SNOW_NONE, or a refusal (1 to 10, 14, 15,
+/* The force at the guard of a slope, from that slope's own load, in N/m, SNOW_NONE, or a refusal (1 to 10, 14 to 17,
  * 12 for the index). */
 uint32_t snow_guard_force(const uint8_t *sheet, size_t length, size_t item, uint8_t slope);
 
 /* Writes the listing of a sheet at the front of out, the line REFUSED for a refused one, and answers its bytes.
+ * Each next roof is the lowest item left whose upper item, if it has one, is listed already.
  * Bytes behind it keep their values. Where room is less than SNOW_LIST_ROOM nothing is written and 0 is answered. */
 size_t snow_list(const uint8_t *sheet, size_t length, uint8_t *out, size_t room);
 

@@ -59,6 +59,11 @@ def projection(height, left, right):
     return struct.pack("<BIII", 7, height, left, right)
 
 
+def stepped(lower_width, step, upper, side):
+    """A lower flat roof beside another item: that item's index, and its side, LEFT or RIGHT."""
+    return struct.pack("<BIIBB", 10, lower_width, step, upper, side)
+
+
 def sheet(*items, gap=0):
     """The count, the pairs, the items; gap bytes stand before each item."""
     pairs, body = b"", b""
@@ -70,6 +75,7 @@ def sheet(*items, gap=0):
     return struct.pack("<H", len(items)) + pairs + body
 
 
+LEFT, RIGHT = 0, 1
 HALL = pitched((20.0, 40.0), (9_000, 6_000))
 SAW = (60.0, 25.0, 2_400, 7_600)
 COAST = [(25.0, 25.0, 6_000, 5_500), (25.0, 25.0, 5_000, 5_000), (25.0, 25.0, 5_500, 6_000)]
@@ -154,6 +160,17 @@ SHEETS = {
     "desk_full": sheet(site(1_000), *SHEDS[:7]).ljust(2_048, b"\xee"),
     "desk_bytes": sheet(site(1_000), *SHEDS[:7]).ljust(2_049, b"\xee"),
     "desk_items": sheet(site(1_000), *SHEDS),
+    # Kind 10
+    "stepped_hall": sheet(site(1_500), stepped(4_000, 2_500, 2, RIGHT), stepped(8_000, 3_500, 3, RIGHT), HALL),
+    "stepped_sides": sheet(
+        site(900, cesl=220, situation=1, altitude=60),
+        pitched((20.0, 35.0), (9_000, 7_000), (0, 1)),
+        stepped(12_000, 4_000, 1, LEFT),
+        stepped(12_000, 4_000, 1, RIGHT),
+        monopitch(12.0, 6_000),
+        stepped(5_000, 3_000, 4, LEFT),
+        stepped(5_000, 3_000, 4, RIGHT),
+    ),
     # Refused
     "refused_pairs": sheet(site(1_500), HALL)[:9],
     "refused_cut": sheet(site(1_500), HALL)[:-3],
@@ -167,6 +184,16 @@ SHEETS = {
         site(1_500, situation=2),
         HALL,
         drift_roof([(45.0, 60.0, 4_000, 3_000), (60.0, 45.0, 3_000, 4_000)], (0, 12_000)),
+    ),
+    "refused_upper": sheet(
+        site(1_500), HALL, lower(15_000, 8_000, 3_500, 6_000, 40.0), stepped(4_000, 2_500, 2, RIGHT)
+    ),
+    "refused_circle": sheet(
+        site(1_500),
+        stepped(4_000, 2_500, 2, RIGHT),
+        stepped(8_000, 3_500, 3, RIGHT),
+        stepped(6_000, 3_000, 2, LEFT),
+        HALL,
     ),
 }
 

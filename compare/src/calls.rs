@@ -5,7 +5,8 @@ use crate::forces;
 use crate::ground;
 use crate::listing;
 use crate::loads::Tenths;
-use crate::sheet::{number, Ceiling, Item, Items, Refusal, Roof, Site, DESK, TERMINALS};
+use crate::sheet::{number, Ceiling, Item, Refusal, Roof, Site, DESK, TERMINALS};
+use crate::steps::Steps;
 
 /// A refusal is this plus 65,536 × number plus the item; an index above 65,535 shows as 65,535.
 pub const REFUSED: u32 = 0x8000_0000;
@@ -77,29 +78,24 @@ fn answer(result: Result<u32, Refusal>) -> u32 {
 }
 
 fn count(sheet: &[u8], ceiling: Ceiling) -> Result<u32, Refusal> {
-    let mut items = Items::of(sheet, ceiling)?;
-    let count = items.len() as u32;
-    items.try_for_each(|item| item.map(|_| ()))?;
-    Ok(count)
+    let steps = Steps::of(sheet, ceiling, |_, _| ())?;
+    Ok(steps.count() as u32)
 }
 
 /// The figures of an item. Every rule on the sheet comes before the index asked for.
 pub fn ask(sheet: &[u8], index: usize) -> Result<Asked, Refusal> {
-    let items = Items::of(sheet, TERMINALS)?;
-    let count = items.len();
     let mut site = None;
     let mut wanted = None;
-    for (place, item) in items.enumerate() {
-        match item? {
-            Item::Site(found) => site = Some(found),
-            Item::Roof(roof) if place == index => wanted = Some(roof),
-            Item::Roof(_) => {}
+    let steps = Steps::of(sheet, TERMINALS, |place, item| {
+        if let Item::Site(found) = item {
+            site = Some(*found);
         }
-    }
-    if index >= count {
-        return Err(Refusal::new(number::PAST_END, index));
-    }
-    Ok((site.expect("the first item is a site"), wanted))
+        if place == index {
+            wanted = Some(*item);
+        }
+    })?;
+    let wanted = wanted.ok_or(Refusal::new(number::PAST_END, index))?;
+    Ok((site.expect("the first item is a site"), steps.roof(&wanted)))
 }
 
 fn arrangement(sheet: &[u8], item: usize, code: u8) -> Result<Arrangement<Tenths>, Refusal> {
@@ -140,6 +136,7 @@ fn force(
 #[cfg(test)]
 mod tests {
     use super::*;
+    use crate::sheets::{with_site, words};
 
     /// A site alone.
     const SHEET: [u8; 20] = [
@@ -176,16 +173,7 @@ mod tests {
 
     /// Sheets with the site in front, so many cylindrical roofs and so many bytes behind them.
     fn with_roofs(roofs: usize, tail: usize) -> Vec<u8> {
-        let count = 1 + roofs;
-        let pairs = (0..roofs).flat_map(|roof| [16 + 4 * count + 9 * roof, 9]);
-        let head = [count, 2 + 4 * count, 14].into_iter().chain(pairs);
-        let mut sheet: Vec<u8> = head
-            .flat_map(|number| (number as u16).to_le_bytes())
-            .collect();
-        sheet.extend(&SHEET[6..]);
-        for _ in 0..roofs {
-            sheet.extend([5, 1, 0, 0, 0, 2, 0, 0, 0]);
-        }
+        let mut sheet = with_site(&vec![words(5, &[1, 2]); roofs]);
         sheet.resize(sheet.len() + tail, 0);
         sheet
     }
@@ -231,7 +219,7 @@ mod tests {
         // Not of its length, as an item of kind 1, and behind another site.
         assert_eq!(verdict(&changed(&[(4, 11)])), 0x8004_0000);
         assert_eq!(verdict(&changed(&[(6, 1)])), 0x8004_0000);
-        for (kind, number) in [(0, 3), (8, 5), (10, 3)] {
+        for (kind, number) in [(0, 3), (8, 5), (10, 4), (11, 3), (255, 3)] {
             let mut sheet = vec![2, 0, 10, 0, 12, 0, 22, 0, 12, 0];
             sheet.extend(&MAP_SHEET[6..]);
             sheet.extend(&MAP_SHEET[6..]);

@@ -61,10 +61,11 @@ impl Checker {
         self.tally.sheets += 1;
         self.tally.accepted_sheets += u64::from(accepted);
         if accepted {
-            let site = site_of(sheet);
+            let site = draft::item_of(sheet, 0);
             self.tally.map_sheets += u64::from(site[0] == draft::MAP_SITE);
             let situation = draft::get(site, draft::situation(site));
             self.tally.situations[situation as usize] += 1;
+            self.tally.halls.sheet(sheet, count);
         }
         let asked = Asked { sheet, count };
         self.settle(Call::Verdict, asked, 0, [ours, theirs], || {
@@ -72,6 +73,19 @@ impl Checker {
         });
         self.desk_verdict(asked, ours);
         asked
+    }
+
+    /// Compares the verdicts on a sheet whose refusal is known beforehand; whether the library has
+    /// that one.
+    pub fn refused(&mut self, sheet: &[u8], number: u32, item: usize) -> bool {
+        self.verdict(sheet);
+        let theirs = ffi::verdict(sheet);
+        let known = calls::REFUSED + 65_536 * number + item as u32;
+        if theirs != known {
+            let describe = || format!("verdict: known {}, library {}", show(known), show(theirs));
+            self.tally.disagree(sheet, describe);
+        }
+        theirs == known
     }
 
     /// Compares the desk's verdicts, and holds them to that of a terminal.
@@ -97,6 +111,7 @@ impl Checker {
         black_box(&mut self.theirs);
         self.tally.length(room, ours);
         self.tally.drifts.answer(code, ours);
+        self.tally.halls.answer(asked.sheet, item, code, ours);
         let describe = || format!("make item {item} code {code} room {room}");
         self.settle(Call::Make, asked, item, [ours, theirs], describe);
         if ours == theirs && self.ours != self.theirs {
@@ -123,6 +138,7 @@ impl Checker {
         let ours = calls::load(asked.sheet, item, code, station);
         let theirs = ffi::load(asked.sheet, item, code, station);
         self.tally.drifts.answer(code, ours);
+        self.tally.halls.answer(asked.sheet, item, code, ours);
         let describe = || format!("load item {item} code {code} station {station}");
         self.settle(Call::Load, asked, item, [ours, theirs], describe);
         if ours == theirs && ours < calls::REFUSED {
@@ -215,14 +231,20 @@ impl Checker {
 
     /// Compares the library's segments with those that it makes of another sheet; whether they are
     /// alike.
-    pub fn alike_segments(&mut self, sheets: [&[u8]; 2], item: usize, code: u8) -> bool {
+    pub fn alike_segments(
+        &mut self,
+        sheets: [&[u8]; 2],
+        item: usize,
+        code: u8,
+        what: &str,
+    ) -> bool {
         let [first, second] = sheets.map(|sheet| {
             let mut out = [MARK; 128];
             (ffi::make(sheet, item, code, &mut out), out)
         });
         let alike = first == second;
         if !alike {
-            let describe = || format!("item {item} code {code} differs under other coefficients");
+            let describe = || format!("item {item} code {code} differs {what}");
             self.tally.disagree(sheets[0], describe);
         }
         alike
@@ -251,12 +273,6 @@ impl Checker {
             });
         }
     }
-}
-
-/// The first item of an accepted sheet, and what stands behind it.
-fn site_of(sheet: &[u8]) -> &[u8] {
-    let offset = u16::from_le_bytes([sheet[2], sheet[3]]);
-    &sheet[usize::from(offset)..]
 }
 
 fn is_marked(bytes: &[u8]) -> bool {

@@ -1,4 +1,4 @@
-//! The listings of the corpus, byte for byte.
+//! The listings of the corpus and of the samples, byte for byte.
 
 use std::env;
 use std::ffi::OsString;
@@ -8,9 +8,10 @@ use std::path::PathBuf;
 use crate::calls;
 use crate::listing;
 
-const DEFAULT: &str = concat!(env!("CARGO_MANIFEST_DIR"), "/../crates/trials/data/A5.bin");
-/// Records of that file.
-const RECORDS: usize = 304;
+const DEFAULT: &str = concat!(env!("CARGO_MANIFEST_DIR"), "/../crates/trials/data/A7.bin");
+const SAMPLES: &str = concat!(env!("CARGO_MANIFEST_DIR"), "/../samples");
+/// Records of the corpus.
+const RECORDS: usize = 317;
 
 /// A sheet and the listing that it has to give.
 struct Record<'a> {
@@ -49,15 +50,32 @@ fn every_listing_agrees() {
     let records = records(&bytes);
     assert!(named().is_some() || records.len() == RECORDS);
     for (place, record) in records.iter().enumerate() {
-        let mut text = Vec::new();
-        listing::list(record.sheet, &mut text);
-        assert!(
-            text == record.text,
-            "record {place}: expected\n{}got\n{}",
-            String::from_utf8_lossy(record.text),
-            String::from_utf8_lossy(&text)
-        );
+        agrees(&format!("record {place}"), record);
     }
+}
+
+#[test]
+fn every_sample_agrees() {
+    let paths = fs::read_dir(SAMPLES)
+        .unwrap()
+        .map(|entry| entry.unwrap().path());
+    let is_sheet = |path: &PathBuf| path.extension().is_some_and(|kind| kind == "sheet");
+    for path in paths.filter(is_sheet) {
+        let [sheet, text] = ["sheet", "txt"].map(|kind| fs::read(path.with_extension(kind)));
+        let (sheet, text) = (&sheet.unwrap(), &text.unwrap());
+        agrees(&path.display().to_string(), &Record { sheet, text });
+    }
+}
+
+fn agrees(name: &str, record: &Record) {
+    let mut text = Vec::new();
+    listing::list(record.sheet, &mut text);
+    assert!(
+        text == record.text,
+        "{name}: expected\n{}got\n{}",
+        String::from_utf8_lossy(record.text),
+        String::from_utf8_lossy(&text)
+    );
 }
 
 #[test]

@@ -28,7 +28,7 @@ pub fn sheet(random: &mut Random) -> Vec<u8> {
 }
 
 fn harm_items(random: &mut Random, items: &mut Vec<Vec<u8>>, place: usize) {
-    match random.below(14) {
+    match random.below(17) {
         0..=2 => outside(random, &mut items[place]),
         3 => change_kind(random, &mut items[place]),
         4 => change_length(random, &mut items[place]),
@@ -43,6 +43,8 @@ fn harm_items(random: &mut Random, items: &mut Vec<Vec<u8>>, place: usize) {
         9 | 10 => items[0] = off_map(random),
         11 => items.push(bad_drift(random)),
         12 => bad_situation(random, &mut items[0]),
+        13 | 14 => items.push(bad_upper(random, items.len())),
+        15 => circle(random, items),
         _ => items.push(bad_arch(random)),
     }
 }
@@ -61,7 +63,7 @@ fn outside(random: &mut Random, item: &mut [u8]) {
 
 fn change_kind(random: &mut Random, item: &mut [u8]) {
     if let Some(kind) = item.first_mut() {
-        *kind = random.pick(&[0, 1, 2, 3, 4, 5, 6, 7, 8, 9, 10, 128, 255]);
+        *kind = random.pick(&[0, 1, 2, 3, 4, 5, 6, 7, 8, 9, 10, 11, 128, 255]);
     }
 }
 
@@ -210,6 +212,27 @@ fn bad_situation(random: &mut Random, item: &mut [u8]) {
         let number = random.pick(&[4, 5, 128, 255]);
         draft::put(item, draft::situation(item), number);
     }
+}
+
+/// A stepped roof under the site, itself, past the last item, or any item, sometimes with a field
+/// outside its range as well.
+fn bad_upper(random: &mut Random, count: usize) -> Vec<u8> {
+    let any = random.below(count);
+    let upper = random.pick(&[0, count, count + 1, draft::MAX_ITEMS, 255, any]);
+    let mut item = draft::under(random, upper);
+    if random.once_in(6) {
+        outside(random, &mut item);
+    }
+    item
+}
+
+/// Stepped roofs in a circle, in the places of others. What stood under one of them leads into it.
+fn circle(random: &mut Random, items: &mut [Vec<u8>]) {
+    let mut places: Vec<_> = (1..items.len()).collect();
+    random.shuffle(&mut places);
+    places.truncate(1 + random.below(4));
+    places.extend(places.first().copied());
+    draft::chain(random, items, &places);
 }
 
 /// An arch that is too high, sometimes with a figure outside its range as well.

@@ -74,8 +74,7 @@ impl Fuzz {
     /// A sheet of so many items and bytes.
     fn sheet_of(&mut self, count: usize, bytes: usize) -> Vec<u8> {
         loop {
-            let mut items = vec![draft::site(&mut self.random)];
-            items.resize_with(count, || draft::roof(&mut self.random));
+            let items = draft::some_items(&mut self.random, count);
             let mut sheet = draft::packed(&mut self.random, &items);
             if let Some(left) = bytes.checked_sub(sheet.len()) {
                 draft::noise(&mut self.random, &mut sheet, left);

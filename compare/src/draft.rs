@@ -5,7 +5,7 @@
 use crate::random::Random;
 
 pub const SITE: u8 = 1;
-const MONOPITCH: u8 = 2;
+pub const MONOPITCH: u8 = 2;
 pub const PITCHED: u8 = 3;
 pub const MULTI_SPAN: u8 = 4;
 pub const CYLINDRICAL: u8 = 5;
@@ -13,7 +13,8 @@ pub const LOWER: u8 = 6;
 pub const PROJECTION: u8 = 7;
 pub const MAP_SITE: u8 = 8;
 pub const DRIFT_ROOF: u8 = 9;
-/// The kinds of roofs, in their order.
+pub const STEPPED: u8 = 10;
+/// The kinds of roofs that need no other item, in their order.
 pub const ROOFS: [u8; 7] = [
     MONOPITCH,
     PITCHED,
@@ -23,6 +24,8 @@ pub const ROOFS: [u8; 7] = [
     PROJECTION,
     DRIFT_ROOF,
 ];
+/// The kinds of items that a stepped roof may stand under.
+pub const UPPERS: [u8; 3] = [MONOPITCH, PITCHED, STEPPED];
 /// The two kinds of multi-span roofs.
 pub const SPANNED: [u8; 2] = [MULTI_SPAN, DRIFT_ROOF];
 pub const MAX_SPANS: usize = 16;
@@ -39,6 +42,9 @@ pub const GROUND_LOAD: Field = SITE_FIELDS[0];
 pub const REGION: Field = MAP_SITE_FIELDS[0];
 pub const ZONE: Field = MAP_SITE_FIELDS[1];
 const MAP_ALTITUDE: Field = MAP_SITE_FIELDS[6];
+/// The index of a stepped roof's upper item, and the side of that item.
+pub const UPPER: Field = STEPPED_FIELDS[2];
+pub const SIDE: Field = STEPPED_FIELDS[3];
 
 /// A field of an item: its place, its bytes, its range and values worth meeting.
 #[derive(Clone, Copy)]
@@ -119,6 +125,13 @@ const ARCH_FIELDS: [Field; 2] = [
 ];
 const LOWER_FIELDS: [Field; 6] = [width(1), width(5), step(9), width(13), pitch(17), guard(19)];
 const PROJECTION_FIELDS: [Field; 3] = [step(1), width(5), width(9)];
+/// The index has no range of its own: this is that of the roofs. A side is 0 or 1, as a guard is.
+const STEPPED_FIELDS: [Field; 4] = [
+    width(1),
+    step(5),
+    field(9, 1, 1, MAX_ITEMS as u32 - 1, &[]),
+    guard(10),
+];
 
 /// The fields of an item, for a multi-span roof those of its spans.
 pub fn fields(item: &[u8]) -> Vec<Field> {
@@ -132,6 +145,7 @@ pub fn fields(item: &[u8]) -> Vec<Field> {
         Some(&LOWER) => LOWER_FIELDS.to_vec(),
         Some(&PROJECTION) => PROJECTION_FIELDS.to_vec(),
         Some(&MAP_SITE) => MAP_SITE_FIELDS.to_vec(),
+        Some(&STEPPED) => STEPPED_FIELDS.to_vec(),
         _ => Vec::new(),
     }
 }
@@ -195,8 +209,7 @@ pub fn item(random: &mut Random, kind: u8) -> Vec<u8> {
             spans(random, kind, count)
         }
         CYLINDRICAL => cylindrical(random),
-        LOWER => lower(random),
-        PROJECTION => projection(random),
+        LOWER | PROJECTION | STEPPED => at_step(random, kind),
         _ => filled(random, blank(kind)),
     }
 }
@@ -209,6 +222,7 @@ fn blank(kind: u8) -> Vec<u8> {
         CYLINDRICAL => 9,
         LOWER => 20,
         MAP_SITE => 12,
+        STEPPED => 11,
         _ => 13,
     };
     let mut item = vec![0; length];
@@ -395,8 +409,8 @@ pub fn without_drifts(roof: &[u8]) -> Vec<u8> {
     item
 }
 
-/// Roofs with one pitch in every place that has one, on the site with the heaviest snow and
-/// exceptional falls.
+/// Roofs with one pitch in every place that has one, and stepped roofs under them, on the site with
+/// the heaviest snow and exceptional falls.
 pub fn pitch_items(pitch: u32) -> Vec<Vec<u8>> {
     let kinds = [SITE, MONOPITCH, MONOPITCH, PITCHED, LOWER];
     let mut items = kinds.map(|kind| highest(blank(kind))).to_vec();
@@ -416,6 +430,12 @@ pub fn pitch_items(pitch: u32) -> Vec<Vec<u8>> {
         put(&mut spans, left, pitch.min(600));
         put(&mut spans, right, pitch.saturating_sub(600));
         items.push(spans);
+    }
+    for [upper, side] in [[1, 0], [2, 1], [3, 0], [3, 1]] {
+        let mut stepped = highest(blank(STEPPED));
+        put(&mut stepped, UPPER, upper);
+        put(&mut stepped, SIDE, side);
+        items.push(stepped);
     }
     items
 }
@@ -450,25 +470,93 @@ fn near_drift(random: &mut Random, step: u32) -> u32 {
     (2 * step).clamp(5_000, 15_000) + random.between(0, 2) - 1
 }
 
-fn lower(random: &mut Random) -> Vec<u8> {
-    let mut item = filled(random, blank(LOWER));
-    if random.once_in(3) {
-        let width = near_drift(random, get(&item, LOWER_FIELDS[2]));
-        put(&mut item, LOWER_FIELDS[1], width);
+/// The step of a roof of kind 6, 7 or 10, and the widths with a drift at it.
+fn step_and_widths(kind: u8) -> (Field, &'static [Field]) {
+    match kind {
+        LOWER => (LOWER_FIELDS[2], &LOWER_FIELDS[1..2]),
+        STEPPED => (STEPPED_FIELDS[1], &STEPPED_FIELDS[..1]),
+        _ => (PROJECTION_FIELDS[0], &PROJECTION_FIELDS[1..]),
+    }
+}
+
+/// A roof of such a kind, a third of the widths close to the drift's length.
+fn at_step(random: &mut Random, kind: u8) -> Vec<u8> {
+    let mut item = filled(random, blank(kind));
+    let (step, widths) = step_and_widths(kind);
+    for field in widths {
+        if random.once_in(3) {
+            let width = near_drift(random, get(&item, step));
+            put(&mut item, *field, width);
+        }
     }
     item
 }
 
-fn projection(random: &mut Random) -> Vec<u8> {
-    let mut item = filled(random, blank(PROJECTION));
-    let step = get(&item, PROJECTION_FIELDS[0]);
-    for side in [1, 2] {
-        if random.once_in(3) {
-            let width = near_drift(random, step);
-            put(&mut item, PROJECTION_FIELDS[side], width);
-        }
-    }
+/// A stepped roof under an item, at either of its sides.
+pub fn under(random: &mut Random, upper: usize) -> Vec<u8> {
+    let mut item = item(random, STEPPED);
+    put(&mut item, UPPER, upper as u32);
     item
+}
+
+/// The items with each stepped roof as one of kind 6, unless a b1 is too wide for that.
+pub fn given(items: &[Vec<u8>]) -> Option<Vec<Vec<u8>>> {
+    let given = |(place, item): (usize, &Vec<u8>)| match item[0] {
+        STEPPED => as_lower(items, place),
+        _ => Some(item.clone()),
+    };
+    items.iter().enumerate().map(given).collect()
+}
+
+/// The roof of kind 6 with the figures of a stepped one among items, unless its b1 is too wide.
+fn as_lower(items: &[Vec<u8>], place: usize) -> Option<Vec<u8>> {
+    let [width, step, upper, side] = STEPPED_FIELDS.map(|field| get(&items[place], field));
+    let [upper_width, slope, pitch, guard] = above(&items[upper as usize], side as usize);
+    let figures = [upper_width, width, step, slope, pitch, guard];
+    (upper_width <= LOWER_FIELDS[0].high).then(|| of_figures(LOWER, &figures))
+}
+
+/// The whole width of an upper item, then width, pitch and guard of one of its sides.
+fn above(upper: &[u8], side: usize) -> [u32; 4] {
+    let fields = fields(upper);
+    let figure = |place: usize| get(upper, fields[place]);
+    match upper[0] {
+        MONOPITCH => [figure(2), figure(2), figure(0), figure(1)],
+        PITCHED => {
+            let whole = figure(4) + figure(5);
+            [whole, figure(4 + side), figure(side), figure(2 + side)]
+        }
+        _ => [figure(0), figure(0), 0, 0],
+    }
+}
+
+/// Whether an upper item is wider than b1 of kind 6 may be.
+pub fn is_wide(upper: &[u8]) -> bool {
+    above(upper, 0)[0] > LOWER_FIELDS[0].high
+}
+
+/// A site, a pitched roof wider than 100,000 and a stepped one under it. Half of the time 2h/sk is
+/// close to 4, and half of the time (b1 + b2)/2h is.
+pub fn wide_hall(random: &mut Random) -> [Vec<u8>; 3] {
+    let mut site = site_in(random, 1);
+    let (mut hall, mut low) = (item(random, PITCHED), under(random, 1));
+    let step = random.between(12_600, 30_000);
+    if random.once_in(2) {
+        put(&mut site, GROUND_LOAD, step / 2 + random.between(0, 2) - 1);
+    }
+    let mut widths = random.between(100_001, 200_000);
+    if random.once_in(2) {
+        let both = 8 * step + random.between(0, 2) - 1;
+        let least = both.saturating_sub(200_000).max(1);
+        let width = random.between(least, (both - 100_001).min(100_000));
+        widths = both - width;
+        put(&mut low, STEPPED_FIELDS[0], width);
+    }
+    let left = random.between(widths - 100_000, 100_000);
+    put(&mut hall, PITCHED_FIELDS[4], left);
+    put(&mut hall, PITCHED_FIELDS[5], widths - left);
+    put(&mut low, STEPPED_FIELDS[1], step);
+    [site, hall, low]
 }
 
 /// A roof of kind 6 or 7 that ends inside a drift, the lower roof with snow that slides down.
@@ -478,14 +566,11 @@ pub fn cut(random: &mut Random, kind: u8) -> Vec<u8> {
         let field = LOWER_FIELDS[4];
         put(&mut item, field, random.between(SLIDES_FROM, 599));
     }
-    let (step, sides) = match kind {
-        LOWER => (LOWER_FIELDS[2], &LOWER_FIELDS[1..2]),
-        _ => (PROJECTION_FIELDS[0], &PROJECTION_FIELDS[1..]),
-    };
+    let (step, widths) = step_and_widths(kind);
     let longest = near_drift(random, get(&item, step));
-    for side in sides {
+    for field in widths {
         let high = random.between(1, longest);
-        put(&mut item, *side, random.between(1, high));
+        put(&mut item, *field, random.between(1, high));
     }
     item
 }
@@ -496,6 +581,31 @@ pub fn roof(random: &mut Random) -> Vec<u8> {
     item(random, kind)
 }
 
+/// A site and a chain of 31 roofs, each before its upper item. None ends inside its drift, and there
+/// are no local forces.
+pub fn long_chain(random: &mut Random) -> Vec<Vec<u8>> {
+    let mut items = vec![of_figures(SITE, &[1_000, 100, 100, 200, 1, 300]); MAX_ITEMS];
+    let places: Vec<_> = (1..MAX_ITEMS).rev().collect();
+    items[places[0]] = of_figures(PITCHED, &[200, 300, 0, 0, 9_000, 6_000]);
+    chain(random, &mut items, &places);
+    for &place in &places[1..] {
+        let width = random.between(15_001, 100_000);
+        put(&mut items[place], STEPPED_FIELDS[0], width);
+    }
+    items
+}
+
+/// A site in a situation and a roof of each kind, a stepped one under each kind of upper item.
+pub fn each_kind(random: &mut Random, situation: u32) -> Vec<Vec<u8>> {
+    let mut items = vec![site_in(random, situation)];
+    items.extend(ROOFS.map(|kind| item(random, kind)));
+    for kind in UPPERS {
+        let upper = items.iter().position(|item| item[0] == kind);
+        items.push(under(random, upper.unwrap_or(0)));
+    }
+    items
+}
+
 /// The items of a sound sheet, the site first.
 pub fn items(random: &mut Random) -> Vec<Vec<u8>> {
     let roofs = match random.below(16) {
@@ -504,11 +614,43 @@ pub fn items(random: &mut Random) -> Vec<Vec<u8>> {
         2 | 3 => random.below(MAX_ITEMS),
         _ => 1 + random.below(4),
     };
-    let mut items = vec![site(random)];
-    for _ in 0..roofs {
-        items.push(roof(random));
+    some_items(random, 1 + roofs)
+}
+
+/// So many items of a sound sheet, the site first. Some roofs are stepped, each under one that was
+/// drawn before it.
+pub fn some_items(random: &mut Random, count: usize) -> Vec<Vec<u8>> {
+    let mut items = vec![site(random); count];
+    let mut uppers = Vec::new();
+    for place in places(random, count) {
+        let is_stepped = !uppers.is_empty() && random.once_in(3);
+        items[place] = if is_stepped {
+            let upper = random.pick(&uppers);
+            under(random, upper)
+        } else {
+            roof(random)
+        };
+        if UPPERS.contains(&items[place][0]) {
+            uppers.push(place);
+        }
     }
     items
+}
+
+/// The places of the roofs among so many items, half of the time in any order.
+fn places(random: &mut Random, count: usize) -> Vec<usize> {
+    let mut places: Vec<_> = (1..count).collect();
+    if random.once_in(2) {
+        random.shuffle(&mut places);
+    }
+    places
+}
+
+/// Puts a stepped roof at every place but the first, under the place before it.
+pub fn chain(random: &mut Random, items: &mut [Vec<u8>], places: &[usize]) {
+    for step in places.windows(2) {
+        items[step[1]] = under(random, step[0]);
+    }
 }
 
 /// Puts items into a sheet, with gaps before, between and behind them.
@@ -550,6 +692,15 @@ fn fill_up(random: &mut Random, sheet: &mut Vec<u8>) {
         _ => 0,
     };
     noise(random, sheet, more);
+}
+
+/// An item of an accepted sheet.
+pub fn item_of(sheet: &[u8], index: usize) -> &[u8] {
+    let [offset, length] = [2, 4].map(|at| {
+        let at = at + 4 * index;
+        usize::from(u16::from_le_bytes([sheet[at], sheet[at + 1]]))
+    });
+    &sheet[offset..offset + length]
 }
 
 pub fn noise(random: &mut Random, bytes: &mut Vec<u8>, count: usize) {

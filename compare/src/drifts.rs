@@ -27,10 +27,7 @@ impl Fuzz {
     /// A roof of each kind in each situation, with every byte for the code.
     pub fn sweep_codes(&mut self) {
         for situation in 0..=draft::MAX_SITUATION {
-            let mut items = vec![draft::site_in(&mut self.random, situation)];
-            for kind in draft::ROOFS {
-                items.push(draft::item(&mut self.random, kind));
-            }
+            let items = draft::each_kind(&mut self.random, situation);
             let sheet = draft::sheet(&mut self.random, &items);
             let asked = self.checker.verdict(&sheet);
             for item in 1..items.len() {
@@ -54,7 +51,9 @@ impl Fuzz {
             self.span_count(count);
         }
         for count in 2..=draft::MAX_SPANS {
-            self.field_ends(count);
+            let site = draft::site_in(&mut self.random, 2);
+            let roof = draft::spans(&mut self.random, draft::DRIFT_ROOF, count);
+            self.field_ends(&[site, roof], 1);
             self.steep_valleys(count);
         }
     }
@@ -82,15 +81,14 @@ impl Fuzz {
         }
     }
 
-    fn field_ends(&mut self, count: usize) {
-        let site = draft::site_in(&mut self.random, 2);
-        let roof = draft::spans(&mut self.random, draft::DRIFT_ROOF, count);
-        for field in draft::fields(&roof) {
+    /// Every field of an item at the ends of its range and beside them.
+    pub fn field_ends(&mut self, items: &[Vec<u8>], place: usize) {
+        for field in draft::fields(&items[place]) {
             let (low, high) = (field.low, field.high);
             for value in [low, low.wrapping_sub(1), high, high + 1, u32::MAX] {
-                let mut roof = roof.clone();
-                draft::put(&mut roof, field, value);
-                self.verdict_and_list(&[site.clone(), roof]);
+                let mut items = items.to_vec();
+                draft::put(&mut items[place], field, value);
+                self.verdict_and_list(&items);
             }
         }
     }
@@ -112,7 +110,7 @@ impl Fuzz {
         }
     }
 
-    fn verdict_and_list(&mut self, items: &[Vec<u8>]) {
+    pub fn verdict_and_list(&mut self, items: &[Vec<u8>]) {
         let sheet = draft::sheet(&mut self.random, items);
         self.checker.verdict(&sheet);
         self.checker.list(&sheet, LIST_ROOM);
@@ -159,7 +157,9 @@ impl Fuzz {
         for valley in 1..count {
             let code = 30 + valley as u8;
             let numbers = self.checker.make(asked, 1, code, 16);
-            let alike = self.checker.alike_segments([asked.sheet, &other], 1, code);
+            let sheets = [asked.sheet, &other];
+            let what = "under other coefficients";
+            let alike = self.checker.alike_segments(sheets, 1, code, what);
             let tally = &mut self.checker.tally.drifts;
             tally.alike += u64::from(alike);
             // The second segment rises to the valley.

@@ -1,10 +1,12 @@
 //! The figures that the calculation is held against.
 
 use crate::arrangement::{codes, loaded_width, Arrangement};
+use crate::calls;
 use crate::forces;
 use crate::ground;
 use crate::loads::{Exact, Tenths, Whole};
-use crate::sheet::{Item, Items, Roof, Site, Situation, Slope, TERMINALS};
+use crate::sheet::{Roof, Site, Situation, Slope};
+use crate::sheets::{with_site, words};
 
 const SITE: Site = Site {
     ground_load: 1_000,
@@ -37,23 +39,9 @@ fn segments(site: &Site, roof: &Roof, code: u8) -> Vec<[u32; 4]> {
 
 /// A roof from its bytes, by way of a sheet.
 fn roof(bytes: &[u8]) -> Result<Roof, u8> {
-    let mut sheet = vec![2, 0, 10, 0, 14, 0, 24, 0];
-    sheet.extend((bytes.len() as u16).to_le_bytes());
-    sheet.extend([1, 0xE8, 3, 0, 0, 100, 0, 100, 0, 200, 0, 0, 0xF4, 1]);
-    sheet.extend(bytes);
-    let item = Items::of(&sheet, TERMINALS).unwrap().nth(1).unwrap();
-    match item.map_err(|refusal| refusal.number)? {
-        Item::Roof(roof) => Ok(roof),
-        Item::Site(_) => unreachable!(),
-    }
-}
-
-fn words(kind: u8, words: &[u32]) -> Vec<u8> {
-    let mut bytes = vec![kind];
-    words
-        .iter()
-        .for_each(|word| bytes.extend(word.to_le_bytes()));
-    bytes
+    let (_, roof) =
+        calls::ask(&with_site(&[bytes.to_vec()]), 1).map_err(|refusal| refusal.number)?;
+    Ok(roof.expect("the second item is a roof"))
 }
 
 fn lower(widths: [u32; 4], pitch: u16) -> Roof {

@@ -60,10 +60,7 @@ impl Fuzz {
                 count: items.len(),
             };
             for item in 1..items.len() {
-                for slope in SLOPES {
-                    self.checker.overhang(asked, item, slope);
-                    self.checker.guard_force(asked, item, slope);
-                }
+                self.force_questions(asked, item);
             }
         }
     }
@@ -106,7 +103,7 @@ impl Fuzz {
     }
 
     /// The sheet may start anywhere in memory, and no call may alter it.
-    fn ask_anywhere(&mut self, sheet: &[u8]) {
+    pub fn ask_anywhere(&mut self, sheet: &[u8]) {
         let shift = self.random.below(8);
         let mut shifted = vec![0; shift];
         shifted.extend_from_slice(sheet);
@@ -167,11 +164,16 @@ impl Fuzz {
         }
     }
 
-    fn item_questions(&mut self, asked: Asked, item: usize) {
+    /// Both forces at each slope, and at some that no roof has.
+    pub fn force_questions(&mut self, asked: Asked, item: usize) {
         for slope in SLOPES {
             self.checker.overhang(asked, item, slope);
             self.checker.guard_force(asked, item, slope);
         }
+    }
+
+    fn item_questions(&mut self, asked: Asked, item: usize) {
+        self.force_questions(asked, item);
         for code in CODES {
             let room = self.next_length();
             self.checker.make(asked, item, code, room);

@@ -10,8 +10,11 @@ pub mod listing;
 pub mod loads;
 pub mod reading;
 pub mod sheet;
+pub mod steps;
 
 #[cfg(test)]
 mod corpus;
 #[cfg(test)]
 mod figures;
+#[cfg(test)]
+mod sheets;

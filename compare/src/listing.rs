@@ -3,7 +3,8 @@
 use crate::arrangement::{codes, Arrangement};
 use crate::forces;
 use crate::loads::Tenths;
-use crate::sheet::{Item, Items, Refusal, Roof, Site, TERMINALS};
+use crate::sheet::{Item, Refusal, Roof, Site, TERMINALS};
+use crate::steps::Steps;
 
 /// A number of bytes that holds the listing of any sheet.
 pub const ROOM: usize = 267_373;
@@ -14,23 +15,15 @@ const REFUSED: &[u8] = b"REFUSED";
 const OVERHANG: u32 = 21;
 const GUARD: u32 = 22;
 
-/// Appends the listing of a sheet, or the one line that refuses it.
+/// Appends the listing of a sheet, or the one line that refuses it. No line is written before
+/// every rule is checked.
 pub fn list(sheet: &[u8], out: &mut Vec<u8>) {
     out.reserve(ROOM);
-    match items_of(sheet) {
-        Ok(items) => accepted(&items, out),
+    let mut items = Vec::with_capacity(TERMINALS.items);
+    match Steps::of(sheet, TERMINALS, |_, item| items.push(*item)) {
+        Ok(steps) => accepted(&items, &steps, out),
         Err(refusal) => refused(refusal, out),
     }
-}
-
-/// All items, so that no line is written before every rule is checked.
-fn items_of(sheet: &[u8]) -> Result<Vec<Item>, Refusal> {
-    let items = Items::of(sheet, TERMINALS)?;
-    let mut kept = Vec::with_capacity(items.len());
-    for item in items {
-        kept.push(item?);
-    }
-    Ok(kept)
 }
 
 fn refused(refusal: Refusal, out: &mut Vec<u8>) {
@@ -39,15 +32,15 @@ fn refused(refusal: Refusal, out: &mut Vec<u8>) {
     line(&[u32::from(refusal.number), refusal.item as u32], out);
 }
 
-fn accepted(items: &[Item], out: &mut Vec<u8>) {
+fn accepted(items: &[Item], steps: &Steps, out: &mut Vec<u8>) {
     out.extend_from_slice(HEADER);
-    let Some((Item::Site(site), roofs)) = items.split_first() else {
+    let Some(Item::Site(site)) = items.first() else {
         return;
     };
-    for (index, item) in (1..).zip(roofs) {
-        if let Item::Roof(roof) = item {
-            segment_lines(index, site, roof, out);
-            force_lines(index, site, roof, out);
+    for index in steps.order() {
+        if let Some(roof) = steps.roof(&items[index]) {
+            segment_lines(index as u32, site, &roof, out);
+            force_lines(index as u32, site, &roof, out);
         }
     }
 }

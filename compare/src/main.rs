@@ -11,6 +11,7 @@ mod drifts;
 mod eaves;
 mod ffi;
 mod fuzz;
+mod halls;
 mod measure;
 mod pairs;
 mod random;
@@ -43,6 +44,7 @@ fn main() -> ExitCode {
     fuzz.sweep_tenths();
     fuzz.sweep_eaves();
     fuzz.sweep_desk();
+    fuzz.sweep_halls();
     fuzz.run(sheets);
     let tally = &fuzz.checker.tally;
     tally.print();

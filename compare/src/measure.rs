@@ -6,7 +6,7 @@ use std::time::Instant;
 use second::calls::{self, LIST_ROOM};
 use second::listing;
 
-use crate::draft::{DRIFT_ROOF, MULTI_SPAN};
+use crate::draft::{self, DRIFT_ROOF, MULTI_SPAN};
 use crate::ffi;
 use crate::fuzz::heavy_sheet;
 use crate::random::Random;
@@ -38,6 +38,26 @@ pub fn print(seed: u64) {
             lines(&sheets)
         );
         listing_times(&sheets).print("listing");
+    }
+    step_times(&mut random);
+}
+
+/// 31 roofs in a chain, and the same roofs with those of kind 10 as kind 6.
+fn step_times(random: &mut Random) {
+    let chains: Vec<_> = (0..SHEETS).map(|_| draft::long_chain(random)).collect();
+    let lower = chains.iter().filter_map(|items| draft::given(items));
+    let lower: Vec<_> = lower.collect();
+    for (what, items) in [("10 in a chain", chains), ("6", lower)] {
+        let sheets: Vec<_> = items
+            .iter()
+            .map(|items| draft::sheet(random, items))
+            .collect();
+        println!(
+            "TIMES {SHEETS} sheets of 31 roofs, 30 of them of kind {what}, {} lines a listing",
+            lines(&sheets)
+        );
+        listing_times(&sheets).print("listing");
+        verdict_times(&sheets).print("verdict");
     }
 }
 

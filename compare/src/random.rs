@@ -34,6 +34,13 @@ impl Random {
         choices[self.below(choices.len())]
     }
 
+    /// Every order as often as any other.
+    pub fn shuffle<T>(&mut self, things: &mut [T]) {
+        for last in (1..things.len()).rev() {
+            things.swap(last, self.below(last + 1));
+        }
+    }
+
     pub fn byte(&mut self) -> u8 {
         self.next() as u8
     }

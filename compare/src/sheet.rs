@@ -56,6 +56,8 @@ pub mod number {
     pub const NOT_MADE: u8 = 13;
     pub const REGION: u8 = 14;
     pub const MAP_LOAD: u8 = 15;
+    pub const UPPER: u8 = 16;
+    pub const CIRCLE: u8 = 17;
 }
 
 /// Why there is no answer, and at which item.
@@ -112,7 +114,7 @@ pub struct Site {
 }
 
 /// A plane roof slope: tenths of a degree and a plan width in mm.
-#[derive(Clone, Copy, Debug, Default)]
+#[derive(Clone, Copy, Debug, Default, PartialEq, Eq)]
 pub struct Slope {
     pub pitch: u16,
     pub guard: bool,
@@ -169,12 +171,24 @@ impl DriftRoof {
 }
 
 /// A lower flat roof with the wall of a taller one at its left end.
-#[derive(Clone, Copy, Debug)]
+#[derive(Clone, Copy, Debug, PartialEq, Eq)]
 pub struct LowerRoof {
+    /// Up to 200,000 under a pitched roof of the sheet.
     pub upper_width: u32,
     pub lower_width: u32,
     pub step: u32,
     pub upper_slope: Slope,
+}
+
+/// A lower flat roof whose upper figures are those of another item.
+#[derive(Clone, Copy, Debug)]
+pub struct SteppedRoof {
+    pub lower_width: u32,
+    pub step: u32,
+    /// The index of the upper item.
+    pub upper: usize,
+    /// The upper item's adjacent side, 0 left or 1 right.
+    pub side: usize,
 }
 
 /// A roof whose figures lie within their ranges.
@@ -190,12 +204,13 @@ pub enum Roof {
     Projection { height: u32, left: u32, right: u32 },
 }
 
-/// An accepted item.
+/// An item that its own rules accept.
 #[derive(Clone, Copy, Debug)]
 #[allow(clippy::large_enum_variant)]
 pub enum Item {
     Site(Site),
     Roof(Roof),
+    Stepped(SteppedRoof),
 }
 
 /// The items of a sheet whose frame and pairs are sound, decoded one after the other.
@@ -283,7 +298,8 @@ fn decode(bytes: &[u8], is_first: bool) -> Result<Item, u8> {
         6 => lower(fields).map(Item::Roof),
         7 => projection(fields).map(Item::Roof),
         8 => map_site(fields).map(Item::Site),
-        _ => drift_roof(fields).map(Item::Roof),
+        9 => drift_roof(fields).map(Item::Roof),
+        _ => stepped(fields).map(Item::Stepped),
     }
 }
 
@@ -306,6 +322,7 @@ fn length_of(kind: u8, rest: &[u8]) -> Result<usize, u8> {
         8 => 12,
         // No length fits a count of 0.
         9 => (20 * spans()?).checked_sub(6).ok_or(number::LENGTH)?,
+        10 => 11,
         _ => return Err(number::KIND),
     })
 }
@@ -470,6 +487,16 @@ fn lower(mut fields: Fields) -> Result<Roof, u8> {
             guard: fields.guard()?,
         },
     }))
+}
+
+/// The index of the upper item has no rule of its own; it is held against all items later.
+fn stepped(mut fields: Fields) -> Result<SteppedRoof, u8> {
+    Ok(SteppedRoof {
+        lower_width: fields.width()?,
+        step: fields.step()?,
+        upper: usize::from(fields.u8()),
+        side: usize::from(within(fields.u8(), 0..=1, number::ROOF_FIELD)?),
+    })
 }
 
 fn projection(mut fields: Fields) -> Result<Roof, u8> {

@@ -6,7 +6,9 @@ use second::calls::{refusal_parts, NONE, REFUSED};
 
 use crate::before::Returned;
 use crate::desk::{self, Read};
+use crate::draft;
 use crate::eaves::Eave;
+use crate::halls::{self, Step};
 
 /// The eight calls, in the order of the header.
 pub const CALLS: [&str; 8] = [
@@ -20,7 +22,7 @@ pub const CALLS: [&str; 8] = [
     "ground_load",
 ];
 /// The highest number of a refusal.
-const MAX_NUMBER: usize = 15;
+const MAX_NUMBER: usize = 17;
 /// Lengths of slices that every run goes through.
 pub const LENGTHS: usize = 141;
 /// Indexes that no sheet has and every run asks for: those at the ends of 8, 16, 31, 32 and 64 bits.
@@ -51,7 +53,9 @@ pub const DRIFT_ROUNDS: u64 = 24;
 /// Pairs of the sheet whose every offset and every length is asked for.
 pub const PAIRS: usize = 3;
 /// Refusals of a sheet inside the desk's ceiling, which the desk and a terminal share.
-const SHEET_REFUSALS: [usize; 12] = [1, 2, 3, 4, 5, 6, 7, 8, 9, 10, 14, 15];
+const SHEET_REFUSALS: [usize; 14] = [1, 2, 3, 4, 5, 6, 7, 8, 9, 10, 14, 15, 16, 17];
+/// Situations with each code that a stepped roof has there.
+const STEPPED_CODES: usize = 11;
 /// A load lies less than this above the exact rule, in millionths of a N/m².
 const DISTANCE: u64 = 1_200_000;
 /// An overhang lies less than this above the rule over the unrounded load, in millionths of a N/m.
@@ -95,6 +99,7 @@ pub struct Tally {
     pub tenths: TenthsTally,
     pub eaves: EaveTally,
     pub desk: DeskTally,
+    pub halls: HallTally,
     disagreements: u64,
 }
 
@@ -373,6 +378,95 @@ impl DeskTally {
     }
 }
 
+/// What was asked about stepped roofs.
+#[derive(Default)]
+pub struct HallTally {
+    /// Accepted sheets with stepped roofs, and those of them with one before its upper item.
+    sheets: u64,
+    turned: u64,
+    /// Arrangements made and loads read, by kind and side of the upper item.
+    answered: [[u64; 2]; draft::UPPERS.len()],
+    /// Those with b1 above 100,000.
+    wide: u64,
+    /// Those by situation and code.
+    codes: [[u64; halls::CODES.len()]; 4],
+    /// Answers of making, and listings, that are those of roofs of kind 6 with the same figures.
+    pub alike: u64,
+    pub listings: u64,
+    /// Circles by length, each refused at its lowest item, and those of them with a lower item that
+    /// leads into one.
+    pub circles: [u64; draft::MAX_ITEMS - 1],
+    pub led: u64,
+}
+
+impl HallTally {
+    /// Counts an accepted sheet.
+    pub fn sheet(&mut self, sheet: &[u8], count: usize) {
+        let upper = |item| halls::upper_of(sheet, item);
+        self.sheets += u64::from((1..count).any(|item| upper(item).is_some()));
+        self.turned += u64::from((1..count).any(|item| upper(item) > Some(item)));
+    }
+
+    /// Counts an arrangement or a load of a stepped roof.
+    pub fn answer(&mut self, sheet: &[u8], item: usize, code: u8, answer: u32) {
+        if answer >= REFUSED {
+            return;
+        }
+        if let Some(step) = Step::of(sheet, item) {
+            self.answered[step.upper][step.side] += 1;
+            self.wide += u64::from(step.is_wide);
+            if let Some(place) = halls::CODES.iter().position(|&known| known == code) {
+                self.codes[step.situation][place] += 1;
+            }
+        }
+    }
+
+    /// How many situations and codes were met together.
+    fn met_codes(&self) -> usize {
+        self.codes
+            .iter()
+            .flatten()
+            .filter(|&&count| count > 0)
+            .count()
+    }
+
+    fn is_good(&self) -> bool {
+        self.turned > 0
+            && self.answered.iter().flatten().all(|&count| count > 0)
+            && self.wide > 0
+            && self.met_codes() == STEPPED_CODES
+            && self.alike > 0
+            && self.listings > 0
+            && self.circles.iter().all(|&count| count > 0)
+            && self.led > 0
+    }
+
+    fn print(&self) {
+        println!(
+            "HALLS {} accepted sheets with stepped roofs, {} with one before its upper item",
+            self.sheets, self.turned
+        );
+        for (kind, [left, right]) in draft::UPPERS.iter().zip(self.answered) {
+            println!("  answered under kind {kind} {left} on the left, {right} on the right");
+        }
+        println!(
+            "  above 100,000 wide {}, codes in their situations {} of {STEPPED_CODES}",
+            self.wide,
+            self.met_codes()
+        );
+        println!(
+            "  alike with kind 6 {} answers of making and {} listings",
+            self.alike, self.listings
+        );
+        println!(
+            "  circles of 1 to {} roofs, each met at least {} times, with a lower roof leading in {}",
+            self.circles.len(),
+            self.circles.iter().min().unwrap_or(&0),
+            self.led
+        );
+    }
+}
+
 impl Tally {
     pub fn new() -> Self {
         Self {
@@ -393,6 +487,7 @@ impl Tally {
             tenths: TenthsTally::default(),
             eaves: EaveTally::default(),
             desk: DeskTally::default(),
+            halls: HallTally::default(),
             disagreements: 0,
         }
     }
@@ -467,7 +562,8 @@ impl Tally {
 
     /// No disagreement, and every refusal, every slice length, every missing index, every place of
     /// the map, every situation, every valley, every number of a pair, every drop, at either eave an
-    /// overhang by the other slope's load, and every edge of the desk's ceiling was met.
+    /// overhang by the other slope's load, every edge of the desk's ceiling, either side of every
+    /// kind of upper item and every length of a circle was met.
     pub fn is_good(&self) -> bool {
         self.agrees()
             && self.refused[1..].iter().all(|&count| count > 0)
@@ -482,6 +578,7 @@ impl Tally {
             && self.tenths.is_good()
             && self.eaves.is_good()
             && self.desk.is_good()
+            && self.halls.is_good()
     }
 
     pub fn print(&self) {
@@ -514,6 +611,7 @@ impl Tally {
         self.tenths.print();
         self.eaves.print();
         self.desk.print();
+        self.halls.print();
         self.print_lengths();
         self.print_missing();
         println!("DISAGREEMENTS {}", self.disagreements);

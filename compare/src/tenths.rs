@@ -25,30 +25,30 @@ impl Fuzz {
         for width in (1..=20).chain([6_000, 12_005, 12_006, 12_007, 20_000]) {
             let figures = [&[WIDTHS - width, width][..], &SLIDING].concat();
             let roof = draft::of_figures(draft::LOWER, &figures);
-            self.tenths(draft::of_figures(draft::SITE, &LIGHT), roof);
+            self.close_questions(&[draft::of_figures(draft::SITE, &LIGHT), roof], 1);
         }
         for kind in draft::SPANNED {
             let roof = draft::two_spans(kind, &SPANS);
-            self.tenths(draft::of_figures(draft::SITE, &ODD), roof);
+            self.close_questions(&[draft::of_figures(draft::SITE, &ODD), roof], 1);
         }
         for _ in 0..ROUNDS {
             for kind in [draft::LOWER, draft::PROJECTION] {
                 let roof = draft::cut(&mut self.random, kind);
                 let site = draft::site_in(&mut self.random, 1);
-                self.tenths(site, roof);
+                self.close_questions(&[site, roof], 1);
             }
         }
     }
 
-    /// The listing, all arrangements, and loads at and near the wall.
-    fn tenths(&mut self, site: Vec<u8>, roof: Vec<u8>) {
-        let sheet = draft::sheet(&mut self.random, &[site, roof]);
+    /// The listing, all arrangements of an item, and its loads at and near the wall.
+    pub fn close_questions(&mut self, items: &[Vec<u8>], item: usize) {
+        let sheet = draft::sheet(&mut self.random, items);
         let asked = self.checker.verdict(&sheet);
         self.checker.list(&sheet, LIST_ROOM);
         for code in [1, 2, 11, 12] {
-            self.arrangement_questions(asked, 1, code);
+            self.arrangement_questions(asked, item, code);
             for station in 0..NEAR {
-                self.checker.load(asked, 1, code, station);
+                self.checker.load(asked, item, code, station);
             }
         }
     }

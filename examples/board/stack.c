@@ -1,6 +1,6 @@
 /* Prints how much stack each call takes at most, over the sheets that are named as arguments and the heaviest sheets there
-   are: 31 multi-span roofs of 16 spans, of kind 4 in situation 1 and of kind 9 in situations 1 and 3, and six for the quote
-   desk. Each call runs on a stack of its own that is painted before. */
+   are: 31 multi-span roofs of 16 spans, of kind 4 in situation 1 and of kind 9 in situations 1 and 3, and 31 roofs in a
+   chain of kind 10; for the quote desk six and seven of them. Each call runs on a stack of its own that is painted before. */
 #include <pthread.h>
 #include <stdint.h>
 #include <stdio.h>
@@ -103,7 +103,8 @@ static void put(size_t at, uint32_t value, int bytes)
         sheet[at + (size_t)i] = (unsigned char)(value >> (8 * i));
 }
 
-static void heavy_site(size_t at, uint8_t situation)
+/* Each of these puts a heavy item together and answers its bytes. */
+static size_t heavy_site(size_t at, uint8_t situation)
 {
     sheet[at] = 1;
     put(at + 1, 24999, 4);
@@ -112,10 +113,11 @@ static void heavy_site(size_t at, uint8_t situation)
     put(at + 9, 299, 2);
     sheet[at + 11] = situation;
     put(at + 12, 1500, 2);
+    return 14;
 }
 
 /* 16 spans; on a roof of kind 9 then a depth and a length for each valley. */
-static void heavy_roof(size_t at, uint8_t kind)
+static size_t heavy_spans(size_t at, uint8_t kind)
 {
     sheet[at] = kind;
     sheet[at + 1] = 16;
@@ -129,23 +131,47 @@ static void heavy_roof(size_t at, uint8_t kind)
         put(at + 194 + 8 * valley, 29999, 4);
         put(at + 198 + 8 * valley, 99999 - (uint32_t)valley, 4);
     }
+    return kind == 9 ? 20 * 16 - 6 : 2 + 12 * 16;
+}
+
+static size_t heavy_hall(size_t at)
+{
+    sheet[at] = 3;
+    put(at + 1, 299, 2);
+    put(at + 3, 301, 2);
+    put(at + 7, 100000, 4);
+    put(at + 11, 99999, 4);
+    return 15;
+}
+
+static size_t heavy_step(size_t at, size_t upper)
+{
+    sheet[at] = 10;
+    put(at + 1, 99999, 4);
+    put(at + 5, 29999, 4);
+    put(at + 9, (uint32_t)upper, 1);
+    put(at + 10, 1, 1);
+    return 11;
+}
+
+/* A roof of the heaviest sheet of a kind. Stepped roofs stand each under the next item, the last one under a hall. */
+static size_t heavy_roof(size_t at, uint8_t kind, size_t item, size_t items)
+{
+    if (kind != 10)
+        return heavy_spans(at, kind);
+    return item + 1 < items ? heavy_step(at, item + 1) : heavy_hall(at);
 }
 
 /* Puts together the heaviest sheet of a kind with so many items. */
 static void heaviest(uint8_t kind, uint8_t situation, size_t items)
 {
-    const size_t roof = kind == 9 ? 20 * 16 - 6 : 2 + 12 * 16;
     size_t at = 2 + 4 * items;
     memset(sheet, 0, sizeof sheet);
     put(0, (uint32_t)items, 2);
     for (size_t i = 0; i < items; i++) {
-        size_t bytes = i == 0 ? 14 : roof;
+        size_t bytes = i == 0 ? heavy_site(at, situation) : heavy_roof(at, kind, i, items);
         put(2 + 4 * i, (uint32_t)at, 2);
         put(4 + 4 * i, (uint32_t)bytes, 2);
-        if (i == 0)
-            heavy_site(at, situation);
-        else
-            heavy_roof(at, kind);
         at += bytes;
     }
     length = at;
@@ -169,7 +195,11 @@ int main(int count, char **names_of_sheets)
     measure_sheet();
     heaviest(9, 3, 32);
     measure_sheet();
+    heaviest(10, 1, 32);
+    measure_sheet();
     heaviest(9, 3, 7); /* the most such roofs that the desk takes */
+    measure_sheet();
+    heaviest(10, 1, 8);
     measure_sheet();
     measure_map();
     for (int call = 1; call < CALLS; call++)

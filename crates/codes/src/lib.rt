@@ -9,7 +9,8 @@ fn is_persistent(kind: u8, code: u8) -> bool
 {
     ((kind == 2) & (code == 1))
         | ((kind == 3) & ((1 <= code) & (code <= 3)))
-        | ((((4 <= kind) & (kind <= 6)) | (kind == 9)) & ((1 <= code) & (code <= 2)))
+        | ((((4 <= kind) & (kind <= 6)) | ((9 <= kind) & (kind <= 10)))
+            & ((1 <= code) & (code <= 2)))
         | ((kind == 7) & (code == 2))
 }
 

@@ -1,7 +1,7 @@
 -- Accepted figures keep their bounds.
 use Prim.Native.Nat.{ℕ, zero, suc, _*_, _≤_, _<_}
 use mathlib.Core.Path.{_≡_}
-use mathlib.Core.Bool.{Bool, true, not, _&&_}
+use mathlib.Core.Bool.{Bool, true, false, not, _&&_}
 use mathlib.Core.List.{List}
 use mathlib.Core.Logic.{⊎-elim}
 use borrow.Author.Tests.{leb-true, ltb-false, not-false}
@@ -12,7 +12,7 @@ use Rattle.figures.specs.Bounds.{Within, SiteIn, SlopeIn, ShapeIn}
 use Rattle.figures.specs.Ranges.{within}
 use Rattle.figures.specs.Rules.{refusedIf}
 use Rattle.figures.specs.SiteRules.{groundField, otherFields, siteFields, siteRefusal}
-use Rattle.figures.specs.RoofRules.{spanCount, slopeOf, slopeFields, slopesFields, spanFields, shapeRefusal}
+use Rattle.figures.specs.RoofRules.{spanCount, slopeOf, slopeFields, slopesFields, spanFields, widestUpper, shapeRefusal}
 use Rattle.figures.specs.declared.site.Site.{Site}
 use Rattle.figures.specs.declared.roof.Slope.{Slope}
 use Rattle.figures.specs.declared.roof.Shape.{Shape}
@@ -62,6 +62,13 @@ each-slope l (suc n) h i lt =
     (λ (below : i < n). each-slope l n (p .0) i below)
     (eq-or-lt-of-le {n = i} {m = n} (omega arith))
 
+-- the width above a lower roof of either kind
+widest : (stepped : Bool) (b1 : ℕ) → within 1 (widestUpper stepped) b1 ≡ true → Within 1 200000 b1
+widest true b1 h = range 1 200000 b1 h
+widest false b1 h =
+    let p = range 1 100000 b1 h in
+    record { low = p .low; high = omega (arith, p .high) }
+
 -- what the rules tell, kind by kind
 pub shape-in : (sh : Shape) (l : List ℕ) → shapeRefusal sh l ≡ 0 → ShapeIn sh l
 unfolding shapeRefusal
@@ -80,13 +87,14 @@ shape-in (Cylindrical rise span) l h =
     let b = none-broken _ _ h in
     let p = both (within 1 15000 rise) (within 2 30000 span) (sound _ 8 (omega arith) (b .0)) in
     record { rise = range 1 15000 rise (p .0); span = range 2 30000 span (p .1); half = ltb-false span (2 * rise) (kept _ 10 (omega arith) (b .1)) }
-shape-in (Abutting b1 b2 h slope guard) l e =
-    let p = both (within 1 100000 b1 && within 1 100000 b2 && within 1 30000 h && slopeFields slope) (leb guard 1) (sound _ 8 (omega arith) e) in
-    let q = both (within 1 100000 b1 && within 1 100000 b2 && within 1 30000 h) (slopeFields slope) (p .0) in
-    let r = both (within 1 100000 b1 && within 1 100000 b2) (within 1 30000 h) (q .0) in
-    let t = both (within 1 100000 b1) (within 1 100000 b2) (r .0) in
+shape-in (Abutting b1 b2 h slope guard stepped) l e =
+    let upper = within 1 (widestUpper stepped) b1 in
+    let p = both (upper && within 1 100000 b2 && within 1 30000 h && slopeFields slope) (leb guard 1) (sound _ 8 (omega arith) e) in
+    let q = both (upper && within 1 100000 b2 && within 1 30000 h) (slopeFields slope) (p .0) in
+    let r = both (upper && within 1 100000 b2) (within 1 30000 h) (q .0) in
+    let t = both upper (within 1 100000 b2) (r .0) in
     record {
-      upper = range 1 100000 b1 (t .0);
+      upper = widest stepped b1 (t .0);
       lower = range 1 100000 b2 (t .1);
       step = range 1 30000 h (r .1);
       slope = slope-in slope (q .1);
@@ -103,5 +111,5 @@ few-spans (Monopitch slope guard) l f = omega arith
 few-spans (Pitched left right leftGuard rightGuard) l f = omega arith
 few-spans (MultiSpan count drifts) l f = f .count .high
 few-spans (Cylindrical rise span) l f = omega arith
-few-spans (Abutting b1 b2 h slope guard) l f = omega arith
+few-spans (Abutting b1 b2 h slope guard stepped) l f = omega arith
 few-spans (Projection h left right) l f = omega arith

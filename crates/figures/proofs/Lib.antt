@@ -1,2 +1,3 @@
 pub mod Accepted
 pub mod Laws
+pub mod Sides

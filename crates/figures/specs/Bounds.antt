@@ -43,7 +43,7 @@ pub record CylindricalIn (r s : ℕ) : Type 0 where
   pub half : 2 * r ≤ s
 
 pub record AbuttingIn (b1 b2 h : ℕ) (s : Slope) (g : ℕ) : Type 0 where
-  pub upper : Within 1 100000 b1
+  pub upper : Within 1 200000 b1
   pub lower : Within 1 100000 b2
   pub step : Within 1 30000 h
   pub slope : SlopeIn s
@@ -59,5 +59,5 @@ ShapeIn (Monopitch slope guard) spans = MonopitchIn slope guard
 ShapeIn (Pitched left right leftGuard rightGuard) spans = PitchedIn left right leftGuard rightGuard
 ShapeIn (MultiSpan count drifts) spans = MultiSpanIn count spans
 ShapeIn (Cylindrical rise span) spans = CylindricalIn rise span
-ShapeIn (Abutting b1 b2 h slope guard) spans = AbuttingIn b1 b2 h slope guard
+ShapeIn (Abutting b1 b2 h slope guard stepped) spans = AbuttingIn b1 b2 h slope guard
 ShapeIn (Projection h left right) spans = ProjectionIn h left right

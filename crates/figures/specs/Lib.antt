@@ -4,3 +4,4 @@ pub mod Refusals
 pub mod RoofRules
 pub mod Rules
 pub mod SiteRules
+pub mod Slopes

@@ -8,6 +8,7 @@ use Rattle.figures.specs.Ranges.{within}
 use Rattle.figures.specs.Rules.{refusedIf, firstOf}
 use Rattle.figures.specs.declared.roof.Slope.{Slope}
 use Rattle.figures.specs.declared.roof.Valley.{Valley}
+use Rattle.figures.specs.declared.roof.LowerRoof.{LowerRoof}
 use Rattle.figures.specs.declared.roof.Shape.{Shape}
 use Rattle.figures.specs.declared.roof.Shape.the-variants.{Monopitch, Pitched, MultiSpan, Cylindrical, Abutting, Projection}
 use Rattle.figures.specs.declared.roof.Roof.{Roof}
@@ -18,7 +19,7 @@ kindOf (Monopitch slope guard) = 2
 kindOf (Pitched left right leftGuard rightGuard) = 3
 kindOf (MultiSpan count drifts) = cond drifts 9 4
 kindOf (Cylindrical rise span) = 5
-kindOf (Abutting b1 b2 h slope guard) = 6
+kindOf (Abutting b1 b2 h slope guard stepped) = cond stepped 10 6
 kindOf (Projection h left right) = 7
 
 -- the spans of a multi-span roof, 0 for any other
@@ -27,7 +28,7 @@ spanCount (Monopitch slope guard) = 0
 spanCount (Pitched left right leftGuard rightGuard) = 0
 spanCount (MultiSpan count drifts) = count
 spanCount (Cylindrical rise span) = 0
-spanCount (Abutting b1 b2 h slope guard) = 0
+spanCount (Abutting b1 b2 h slope guard stepped) = 0
 spanCount (Projection h left right) = 0
 
 -- a roof of a shape, with the numbers of a multi-span roof's spans
@@ -97,12 +98,20 @@ cylindricalRefusal rise span =
     firstOf (refusedIf (not (within 1 15000 rise && within 2 30000 span)) 8)
     (refusedIf (ltb span (2 * rise)) 10)
 
-abbrev pub abuttingRefusal : ℕ → ℕ → ℕ → Slope → ℕ → ℕ
-abuttingRefusal b1 b2 h slope guard =
-    refusedIf (not (within 1 100000 b1 && within 1 100000 b2 && within 1 30000 h && slopeFields slope && leb guard 1)) 8
+-- kind 10, document 02, A7: "As figures it carries kind 6's fields, with b1 up to 200,000"
+abbrev pub widestUpper : Bool → ℕ
+widestUpper stepped = cond stepped 200000 100000
+
+abbrev pub abuttingRefusal : ℕ → ℕ → ℕ → Slope → ℕ → Bool → ℕ
+abuttingRefusal b1 b2 h slope guard stepped =
+    refusedIf (not (within 1 (widestUpper stepped) b1 && within 1 100000 b2 && within 1 30000 h && slopeFields slope && leb guard 1)) 8
 
 abbrev pub projectionRefusal : ℕ → ℕ → ℕ → ℕ
 projectionRefusal h left right = refusedIf (not (within 1 30000 h && within 1 100000 left && within 1 100000 right)) 8
+
+-- an item of kind 10 by itself: b2, h and "its adjacent side (8: 0 left, 1 right)"
+abbrev pub lowerRefusal : LowerRoof → ℕ
+lowerRefusal lower = refusedIf (not (within 1 100000 (lower .b2) && within 1 30000 (lower .h) && leb (lower .side) 1)) 8
 
 -- the first rule that a roof breaks, 0 for none
 unfoldable pub shapeRefusal : Shape → List ℕ → ℕ
@@ -110,7 +119,7 @@ shapeRefusal (Monopitch slope guard) spans = monopitchRefusal slope guard
 shapeRefusal (Pitched left right leftGuard rightGuard) spans = pitchedRefusal left right leftGuard rightGuard
 shapeRefusal (MultiSpan count drifts) spans = multiSpanRefusal count drifts spans
 shapeRefusal (Cylindrical rise span) spans = cylindricalRefusal rise span
-shapeRefusal (Abutting b1 b2 h slope guard) spans = abuttingRefusal b1 b2 h slope guard
+shapeRefusal (Abutting b1 b2 h slope guard stepped) spans = abuttingRefusal b1 b2 h slope guard stepped
 shapeRefusal (Projection h left right) spans = projectionRefusal h left right
 
 -- "a roof likewise, here 8, 9 and 10": it is accepted (document 01, words of demand 3) where this is 0

@@ -4,6 +4,7 @@ mod rules;
 mod site;
 mod slopes;
 
+pub use roof::LowerRoof;
 pub use roof::Roof;
 pub use roof::SPAN_NUMBERS;
 pub use roof::Shape;

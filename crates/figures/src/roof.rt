@@ -17,8 +17,18 @@ pub struct Valley {
     pub b3: u32,
 }
 
-// The shape of a roof, kinds 2 to 7 and 9. Lengths in mm; a guard is 0 or 1. A multi-span roof with drifts in its valleys
-// by Annex B is of kind 9, one without them of kind 4.
+// A lower roof as its item has it: its width b2 and its step h, the index of the upper item that it stands at, and the side
+// of that item that is adjacent, 0 left and 1 right.
+pub struct LowerRoof {
+    pub b2: u32,
+    pub h: u32,
+    pub upper: u8,
+    pub side: u8,
+}
+
+// The shape of a roof, kinds 2 to 7, 9 and 10. Lengths in mm; a guard is 0 or 1. A multi-span roof with drifts in its
+// valleys by Annex B is of kind 9, one without them of kind 4. A lower roof whose upper figures come from another item of
+// its sheet is stepped, of kind 10; one that has them in its own item is of kind 6.
 pub enum Shape {
     Monopitch {
         slope: Slope,
@@ -44,6 +54,7 @@ pub enum Shape {
         h: u32,
         slope: Slope,
         guard: u8,
+        stepped: bool,
     },
     Projection {
         h: u32,
@@ -73,7 +84,19 @@ pub fn kind_of(shape: Shape) -> u8
             4
         },
         Shape::Cylindrical { .. } => 5,
-        Shape::Abutting { .. } => 6,
+        Shape::Abutting {
+            b1: _,
+            b2: _,
+            h: _,
+            slope: _,
+            guard: _,
+            stepped,
+        } => {
+            if stepped {
+                return 10;
+            }
+            6
+        },
         Shape::Projection { .. } => 7,
     }
 }

@@ -11,8 +11,9 @@ use Rattle.figures.specs.declared.roof.Shape.{Shape}
 use Rattle.force_rows.specs.Rows.{forceRow, slopeRows, forceRows}
 use Rattle.standard.specs.Codes.{forcesIn}
 use Rattle.standard.specs.Forces as forces
-use Rattle.standard.specs.Forces.{slopeAt, overhangAt, guardAt}
-use Rattle.standard.proofs.Forces.{no-sides}
+use Rattle.figures.specs.Slopes.{slopeAt}
+use Rattle.standard.specs.Forces.{overhangAt, guardAt}
+use Rattle.figures.proofs.Sides.{no-sides}
 use Rattle.text.specs.Text.{row}
 use Rattle.text.proofs.Writing.{short}
 

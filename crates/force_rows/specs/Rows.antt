@@ -3,7 +3,8 @@ use Prim.Native.Nat.{ℕ}
 use mathlib.Core.List.{List, [], _∷_, _++_}
 use Rattle.figures.specs.declared.site.Site.{Site}
 use Rattle.figures.specs.declared.roof.Shape.{Shape}
-use Rattle.standard.specs.Forces.{Force, force, none, refused, slopeAt, overhangAt, guardAt}
+use Rattle.figures.specs.Slopes.{slopeAt}
+use Rattle.standard.specs.Forces.{Force, force, none, refused, overhangAt, guardAt}
 use Rattle.text.specs.Text.{row}
 
 -- "item, 21, slope, overhang; item, 22, slope, guard force"; no line where there is no force

@@ -5,7 +5,7 @@ ghost use lib.ListN.{length};
 ghost use Rattle.figures.specs.SiteRules.{siteRefusal};
 ghost use Rattle.force_rows.specs.Rows.{forceRow, slopeRows, forceRows};
 ghost use Rattle.local_forces.specs.Answers.{forceMeans};
-ghost use Rattle.slope_loads.specs.Slopes.{AcceptedShape};
+ghost use Rattle.figures.specs.Slopes.{AcceptedShape};
 ghost use Rattle.text.specs.Text.{Wrote};
 use codes::has_forces;
 use figures::Shape;

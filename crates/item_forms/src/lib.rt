@@ -3,6 +3,7 @@ ghost use mathlib.Core.Path.{_≡_};
 ghost use Prim.Native.Nat.{_+_, _≤_};
 ghost use lib.ListN.{length};
 ghost use Rattle.item_forms.specs.Forms.{itemAlone, malformed, slopeAt};
+use figures::LowerRoof;
 use figures::SPAN_NUMBERS;
 use figures::Shape;
 use figures::SiteData;
@@ -15,10 +16,12 @@ pub const UNKNOWN_KIND: u8 = 3;
 
 pub const ITEM_LENGTH: u8 = 4;
 
-// What an item's bytes say: a site, the shape of a roof, or the number of their refusal.
+// What an item's bytes say: a site, the shape of a roof, a lower roof whose shape an upper item completes, or the number
+// of their refusal.
 pub enum Item {
     SiteItem(SiteData),
     RoofItem(Shape),
+    LowerItem(LowerRoof),
     Malformed(u8),
 }
 

@@ -8,7 +8,8 @@ use Rattle.figures.specs.declared.roof.Shape.the-variants.{MultiSpan}
 use Rattle.figures.specs.declared.roof.Roof.{Roof}
 use Rattle.map_sites.specs.Sites.{siteFrom}
 use Rattle.item_forms.specs.declared.Item.{Item}
-use Rattle.item_forms.specs.declared.Item.the-variants.{SiteItem, RoofItem, Malformed}
+use Rattle.item_forms.specs.declared.Item.the-variants.{SiteItem, RoofItem, LowerItem, Malformed}
+use Rattle.stepped_roofs.specs.Stepped.{upperShape, steppedShape}
 
 -- a site and a roof of zeros, where there is none
 abbrev pub noSite : Site
@@ -21,10 +22,12 @@ noRoof = roofOf (MultiSpan 0 false) noSpans
 abbrev pub siteBy : Item → Site
 siteBy (SiteItem fields) = siteFrom fields
 siteBy (RoofItem shape) = noSite
+siteBy (LowerItem lower) = noSite
 siteBy (Malformed number) = noSite
 
--- the roof that an item says, with the spans beside it
-abbrev pub roofBy : Item → List ℕ → Roof
-roofBy (SiteItem fields) spans = noRoof
-roofBy (RoofItem shape) spans = roofOf shape spans
-roofBy (Malformed number) spans = noRoof
+-- the roof that an item says, with the spans beside it, and with what stands above it where its upper figures come from there
+abbrev pub roofBy : Item → List ℕ → Item → Roof
+roofBy (SiteItem fields) spans above = noRoof
+roofBy (RoofItem shape) spans above = roofOf shape spans
+roofBy (LowerItem lower) spans above = roofOf (steppedShape lower (upperShape above)) noSpans
+roofBy (Malformed number) spans above = noRoof

@@ -1,10 +1,10 @@
 -- The rules on an item in its place: refusals 3 to 10, 14 and 15.
 use Prim.Native.Nat.{ℕ, zero, suc}
 use mathlib.Core.List.{List}
-use Rattle.figures.specs.RoofRules.{shapeRefusal}
+use Rattle.figures.specs.RoofRules.{lowerRefusal, shapeRefusal}
 use Rattle.map_sites.specs.Sites.{siteDataRefusal}
 use Rattle.item_forms.specs.declared.Item.{Item}
-use Rattle.item_forms.specs.declared.Item.the-variants.{SiteItem, RoofItem, Malformed}
+use Rattle.item_forms.specs.declared.Item.the-variants.{SiteItem, RoofItem, LowerItem, Malformed}
 use Rattle.item_forms.specs.declared.Decoded.{Decoded}
 
 -- the first rule that an item at an index breaks, 0 where it breaks none: the refusal of its form, then
@@ -15,6 +15,8 @@ ruleNumber zero (SiteItem fields) spans = siteDataRefusal fields
 ruleNumber (suc index) (SiteItem fields) spans = 5
 ruleNumber zero (RoofItem shape) spans = 5
 ruleNumber (suc index) (RoofItem shape) spans = shapeRefusal shape spans
+ruleNumber zero (LowerItem lower) spans = 5
+ruleNumber (suc index) (LowerItem lower) spans = lowerRefusal lower
 
 abbrev pub ruleOf : ℕ → Decoded → ℕ
 ruleOf index d = ruleNumber index (d .item) (d .spans)
@@ -24,3 +26,4 @@ abbrev pub misplaced : Item → ℕ
 misplaced (Malformed number) = number
 misplaced (SiteItem fields) = 5
 misplaced (RoofItem shape) = 5
+misplaced (LowerItem lower) = 5

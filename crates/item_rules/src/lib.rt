@@ -4,6 +4,7 @@ ghost use Rattle.items.specs.Items.{content};
 ghost use Rattle.item_rules.specs.Rules.{misplaced, ruleOf};
 use items::Item;
 use items::decode;
+use kind_rules::lower_refusal;
 use map_sites::site_data_refusal;
 use roof_rules::shape_refusal;
 
@@ -18,6 +19,7 @@ fn misplaced_number(item: Item) -> u8
         Item::Malformed(number) => number,
         Item::SiteItem(_) => SITE_PLACE,
         Item::RoofItem(_) => SITE_PLACE,
+        Item::LowerItem(_) => SITE_PLACE,
     }
 }
 
@@ -40,7 +42,10 @@ fn later_number(p: &[u8]) -> u8
     let decoded = decode(p);
     let item = decoded.item;
     let Item::RoofItem(shape) = item else {
-        return misplaced_number(item);
+        let Item::LowerItem(lower) = item else {
+            return misplaced_number(item);
+        };
+        return lower_refusal(lower);
     };
     shape_refusal(shape, &decoded.spans)
 }

@@ -20,8 +20,19 @@ module _ (p : List ℕ) where
 -- a byte that is none of the kinds
 pub unknown :
     (k : ℕ) (p : List ℕ) → (k ≡ 1 → ⊥) → (k ≡ 2 → ⊥) → (k ≡ 3 → ⊥) → (k ≡ 4 → ⊥) → (k ≡ 5 → ⊥) → (k ≡ 6 → ⊥) → (k ≡ 7 → ⊥)
-    → (k ≡ 8 → ⊥) → (k ≡ 9 → ⊥)
+    → (k ≡ 8 → ⊥) → (k ≡ 9 → ⊥) → (k ≡ 10 → ⊥)
     → malformed 3 ≡ byKind k p
 unfolding byKind
-unknown k p a b c d e f g h i =
-    rw (ne-eqb k 1 a, ne-eqb k 2 b, ne-eqb k 3 c, ne-eqb k 4 d, ne-eqb k 5 e, ne-eqb k 6 f, ne-eqb k 7 g, ne-eqb k 8 h, ne-eqb k 9 i)
+unknown k p a b c d e f g h i j =
+    rw (
+      ne-eqb k 1 a,
+      ne-eqb k 2 b,
+      ne-eqb k 3 c,
+      ne-eqb k 4 d,
+      ne-eqb k 5 e,
+      ne-eqb k 6 f,
+      ne-eqb k 7 g,
+      ne-eqb k 8 h,
+      ne-eqb k 9 i,
+      ne-eqb k 10 j,
+    )

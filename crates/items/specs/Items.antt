@@ -8,7 +8,7 @@ use Rattle.little_endian.specs.Numbers.{byteAt}
 use Rattle.item_forms.specs.Forms.{malformed}
 use Rattle.item_forms.specs.declared.Decoded.{Decoded}
 use Rattle.site_items.specs.SiteItems.{siteItem, mapSiteItem}
-use Rattle.roof_items.specs.RoofItems.{monopitchItem, pitchedItem, cylindricalItem, abuttingItem, projectionItem}
+use Rattle.roof_items.specs.RoofItems.{monopitchItem, pitchedItem, cylindricalItem, abuttingItem, projectionItem, lowerItem}
 use Rattle.span_items.specs.SpanItems.{multiSpanItem, driftedItem}
 
 -- by its kind; "3 unknown kind"
@@ -23,7 +23,8 @@ byKind kind p =
     (cond (eqb kind 7) (projectionItem p)
     (cond (eqb kind 8) (mapSiteItem p)
     (cond (eqb kind 9) (driftedItem p)
-    (malformed 3)))))))))
+    (cond (eqb kind 10) (lowerItem p)
+    (malformed 3))))))))))
 
 -- what an item's bytes say: "empty (4), 3, 4"
 unfoldable pub content : List ℕ → Decoded

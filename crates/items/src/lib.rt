@@ -8,6 +8,7 @@ use item_forms::UNKNOWN_KIND;
 use item_forms::refused;
 use roof_items::abutting_item;
 use roof_items::cylindrical_item;
+use roof_items::lower_item;
 use roof_items::monopitch_item;
 use roof_items::pitched_item;
 use roof_items::projection_item;
@@ -39,6 +40,7 @@ pub fn decode(p: &[u8]) -> Decoded
         6 => abutting_item(p),
         7 => projection_item(p),
         8 => map_site_item(p),
+        10 => lower_item(p),
         _ => refused(UNKNOWN_KIND),
     }
 }

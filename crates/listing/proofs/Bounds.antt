@@ -1,45 +1,27 @@
 -- How long a listing can be: the room that is asked for holds the listing of any sheet.
-use Prim.Native.Nat.{ℕ, zero, suc, _*_, _≤_, _<_}
+use Prim.Native.Nat.{ℕ, _-_, _≤_, _<_}
 use mathlib.Core.List.{List, _++_}
 use mathlib.Core.Path.{_≡_, refl, ap, _∙_}
 use borrow.Author.Tests.{lt-ltb, le-ltb}
 use lib.ListN.{length, drop, length-append}
 use native.Mathlib.Nat.{zero-add}
 use native.Mathlib.Omega.{arith}
-use Rattle.roof_rows.proofs.Lengths.{roof-short}
-use Rattle.listing.proofs.Accepted.{few-items, some-items, figures-at}
-use Rattle.listing.specs.Listing.{header}
-use Rattle.roof_rows.specs.Rows.{roofRows}
-use Rattle.listing.specs.Listing.{itemRows, itemsRows, listingBy, listing, listRoom, listed, bytesAfter}
-use Rattle.sheet_figures.specs.Find.{sheetSite, sheetRoof}
+use Rattle.listing.specs.Listing.{header, listingBy, listing, listRoom, listed, bytesAfter}
 use Rattle.ceilings.specs.Ceilings.{terminals}
 use Rattle.pairs.specs.Pairs.{Answer, accepted, refused}
 use Rattle.sheet.specs.Sheet.{sheetVerdict}
+use Rattle.sheet_rows.specs.SheetRows.{roofsRows}
+use Rattle.sheet_rows.proofs.Accepted.{all-short}
 use Rattle.standard.specs.Coefficients.{recommendedFigures}
 use Rattle.text.proofs.Writing.{short, in-place, room, wrote-as}
 use Rattle.text.specs.Text.{Wrote}
-
-module _ (sheet : List ℕ) (n : ℕ) (h : sheetVerdict terminals sheet ≡ accepted n) where
-  items-short : (k : ℕ) → k < n → length (itemsRows recommendedFigures sheet (suc k)) ≤ 8624 * k
-  unfolding itemsRows itemRows
-  items-short zero l = omega arith
-  items-short (suc k) l =
-      omega (
-        arith,
-        length-append (itemsRows recommendedFigures sheet (suc k)) (roofRows recommendedFigures (sheetSite sheet) (sheetRoof sheet (suc k)) (suc k)),
-        items-short k (omega arith),
-        roof-short recommendedFigures (sheetSite sheet) (sheetRoof sheet (suc k)) (suc k) (figures-at sheet n h (suc k) (omega arith) l),
-      )
-
-  all-short : (m : ℕ) → m ≡ n → length (itemsRows recommendedFigures sheet m) ≤ 267344
-  all-short zero l = absurd (omega (arith, some-items sheet n h))
-  all-short (suc k) l = omega (arith, items-short k (omega arith), few-items sheet n h)
+use Rattle.upper_items.specs.Uppers.{roofOrder}
 
 -- the room is enough for the listing of any sheet
 listing-by : (sheet : List ℕ) (v : Answer ℕ) → sheetVerdict terminals sheet ≡ v → length (listingBy v sheet) ≤ listRoom
 unfolding listingBy
 listing-by sheet (accepted n) h =
-    omega (arith, length-append header (itemsRows recommendedFigures sheet n), all-short sheet n h n refl)
+    omega (arith, length-append header (roofsRows recommendedFigures sheet (roofOrder sheet n) (n - 1)), all-short sheet n h)
 listing-by sheet (refused number item) h = simp length-append (omega (arith, short number, short item))
 
 pub listing-short : (sheet : List ℕ) → length (listing sheet) ≤ listRoom

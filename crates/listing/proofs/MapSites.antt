@@ -1,28 +1,36 @@
 -- A sheet with a map site is listed as the sheet with the kind 1 site of its load.
-use Prim.Native.Nat.{ℕ, zero, suc, _≤_}
+use Prim.Native.Nat.{ℕ, zero, suc, _-_, _≤_}
 use mathlib.Core.List.{List}
 use mathlib.Core.Path.{_≡_, refl, ap, _∙_}
+use lib.ListN.{getD}
 use native.Mathlib.Omega.{arith}
-use Rattle.listing.specs.Listing.{itemRows, itemsRows, listingBy, listing}
+use Rattle.listing.specs.Listing.{listingBy, listing}
 use Rattle.ceilings.specs.Ceilings.{terminals}
 use Rattle.pairs.specs.Pairs.{Answer, accepted, refused}
 use Rattle.sheet.specs.Sheet.{sheetVerdict}
-use Rattle.sheet_figures.proofs.MapSites.{same-verdict, same-site, same-roof, counted}
+use Rattle.sheet.proofs.Kept.{sheet-ordered}
+use Rattle.sheet_figures.proofs.MapSites.{same-verdict, same-order, same-site, same-roof, counted}
 use Rattle.sheet_figures.specs.MapSites.{GivenLoad}
+use Rattle.sheet_rows.specs.SheetRows.{itemRows, roofsRows}
 use Rattle.standard.specs.Coefficients.{recommendedFigures}
+use Rattle.upper_items.specs.Uppers.{roofOrder}
 
 module _ (s t : List ℕ) (n : ℕ) (g : GivenLoad s t n) where
-  same-rows : (k : ℕ) → k ≤ n → itemsRows recommendedFigures s k ≡ itemsRows recommendedFigures t k
-  unfolding itemsRows itemRows
-  same-rows zero h = refl
-  same-rows (suc zero) h = refl
-  same-rows (suc (suc i)) h =
-      rw (same-rows (suc i) (omega arith), same-site s t n g, same-roof s t n g (suc i) (omega arith) (omega arith))
+  same-rows :
+      sheetVerdict terminals s ≡ accepted n → (k : ℕ) → k ≤ n - 1
+      → roofsRows recommendedFigures s (roofOrder s n) k ≡ roofsRows recommendedFigures t (roofOrder s n) k
+  unfolding roofsRows itemRows
+  same-rows v zero h = refl
+  same-rows v (suc k) h =
+      let p = sheet-ordered terminals s n v .roof k (omega arith) in
+      rw (same-rows v k (omega arith), same-site s t n g, same-roof s t n g n v (getD (roofOrder s n) k 0) (p .0) (p .1))
 
   by-verdict : (v : Answer ℕ) → sheetVerdict terminals s ≡ v → listingBy v s ≡ listingBy v t
   unfolding listingBy
   by-verdict (refused number item) e = refl
-  by-verdict (accepted m) e = rw (same-rows m (omega (arith, counted s t n g m e)))
+  by-verdict (accepted m) e =
+      let c = counted s t n g m e in
+      rw (c, same-rows (rw c at e) (n - 1) (omega arith), same-order s t n g)
 
   pub same-listing : listing s ≡ listing t
   unfolding listing

@@ -11,7 +11,12 @@ use Rattle.roof_rows.specs.Rows.{segmentRows, codeRows, codesRows, arrangementR
 use Rattle.roof_rows.specs.Rows.{roofRows}
 use Rattle.ground_loads.specs.Map.{rows, rowOf, zoneLoad, expression, groundLoad}
 use Rattle.map_sites.specs.Sites.{mapRefusal, siteDataRefusal}
-use Rattle.listing.specs.Listing.{itemRows, itemsRows, listingBy, listing}
+use Rattle.listing.specs.Listing.{listingBy, listing}
+use Rattle.sheet_rows.specs.SheetRows.{itemRows, roofsRows}
+use Rattle.circles.specs.Following.{meets, comesBack, listed}
+use Rattle.order.specs.Order.{lowest, ready, nextRoof, added, firstRoofs, order}
+use Rattle.upper_items.specs.Uppers.{upper}
+use Rattle.upper_rules.specs.UpperRules.{upperNumber, circleNumber, uppersVerdict}
 use Rattle.rounding.specs.Limit.{larger}
 use Rattle.rounding.specs.Load.{breakLoad}
 use Rattle.rounding.specs.Ramp.{reading}
@@ -22,12 +27,13 @@ use Rattle.roof_items.specs.RoofItems.{monopitchItem}
 use Rattle.item_forms.specs.Forms.{sized}
 use Rattle.sheet_figures.specs.Find.{sheetSite, sheetRoof}
 use Rattle.sheet_figures.specs.MapSites.{givenItem, GivenLoad}
-use Rattle.pairs.specs.Pairs.{pairNumber, inTurn, pairsVerdict}
-use Rattle.sheet.specs.Sheet.{part, itemNumber, sheetVerdict}
+use Rattle.pairs.specs.Pairs.{pairNumber, inTurn, pairsVerdict, part}
+use Rattle.sheet.specs.Sheet.{itemNumber, sheetVerdict}
 use Rattle.standard.specs.Arrangements.{factorOf, countIn, stretchIn, exists, count, stretch}
 use Rattle.standard.specs.Codes.{existsIn}
 use Rattle.standard.specs.Coefficients.{mu1, guarded}
-use Rattle.standard.specs.Forces.{slopeAt, slopeLoad, wholeLoad, guardRule, guardForce, overhangAt, guardAt}
+use Rattle.figures.specs.Slopes.{slopeAt}
+use Rattle.standard.specs.Forces.{slopeLoad, wholeLoad, guardRule, guardForce, overhangAt, guardAt}
 use Rattle.standard.specs.Monopitch.{monopitch}
 use Rattle.standard.specs.Sine.{sineReference, sineEntry}
 use Rattle.standard.specs.Stretch.{load, readIn, startOf, segment}
@@ -64,8 +70,8 @@ mapText =
     49 ∷ 32 ∷ 50 ∷ 50 ∷ 32 ∷ 49 ∷ 32 ∷ 51 ∷ 56 ∷ 48 ∷ 56 ∷ 10 ∷ []
 
 pub example : (listing sheet ≡ text) × (listing mapSheet ≡ mapText)
-unfolding listing listingBy itemsRows itemRows roofRows arrangementRows codesRows codeRows segmentRows forceRows slopeRows sheetSite sheetRoof
-    sheetVerdict pairsVerdict inTurn pairNumber itemNumber content byKind siteItem mapSiteItem monopitchItem sized
+unfolding listing listingBy roofsRows itemRows order firstRoofs added nextRoof ready lowest listed upper roofRows arrangementRows codesRows codeRows segmentRows forceRows slopeRows sheetSite sheetRoof
+    sheetVerdict uppersVerdict upperNumber circleNumber comesBack meets pairsVerdict inTurn pairNumber itemNumber content byKind siteItem mapSiteItem monopitchItem sized
     siteDataRefusal mapRefusal groundLoad expression zoneLoad rowOf rows siteRefusal shapeRefusal firstOf
     exists existsIn count countIn stretch stretchIn factorOf monopitch
     mu1 guarded segment startOf readIn load reading breakLoad roundedUp ceilDiv larger

@@ -1,17 +1,16 @@
 -- The listing of a sheet, as the list of its bytes.
-use Prim.Native.Nat.{ℕ, zero, suc}
+use Prim.Native.Nat.{ℕ, _-_}
 use mathlib.Core.Bool.{cond}
 use mathlib.Core.List.{List, [], _∷_, _++_}
 use lib.Dec.{ltb}
 use lib.ListN.{length, drop}
-use Rattle.roof_rows.specs.Rows.{roofRows}
-use Rattle.sheet_figures.specs.Find.{sheetSite, sheetRoof}
 use Rattle.ceilings.specs.Ceilings.{terminals}
 use Rattle.pairs.specs.Pairs.{Answer, accepted, refused}
 use Rattle.sheet.specs.Sheet.{sheetVerdict}
+use Rattle.sheet_rows.specs.SheetRows.{roofsRows}
 use Rattle.standard.specs.Coefficients.{recommendedFigures}
-use Rattle.standard.specs.declared.National.{National}
 use Rattle.text.specs.Text.{row}
+use Rattle.upper_items.specs.Uppers.{roofOrder}
 
 -- "ITEM ARR START END LOAD LOAD" and a line feed
 abbrev pub header : List ℕ
@@ -19,23 +18,13 @@ header =
     73 ∷ 84 ∷ 69 ∷ 77 ∷ 32 ∷ 65 ∷ 82 ∷ 82 ∷ 32 ∷ 83 ∷ 84 ∷ 65 ∷ 82 ∷ 84 ∷ 32 ∷
     69 ∷ 78 ∷ 68 ∷ 32 ∷ 76 ∷ 79 ∷ 65 ∷ 68 ∷ 32 ∷ 76 ∷ 79 ∷ 65 ∷ 68 ∷ 10 ∷ []
 
--- an item's rows: the site, which is the first item, has none
-unfoldable pub itemRows : National → List ℕ → ℕ → List ℕ
-itemRows national sheet zero = []
-itemRows national sheet (suc i) = roofRows national (sheetSite sheet) (sheetRoof sheet (suc i)) (suc i)
-
--- the rows of the first n items of a sheet
-unfoldable pub itemsRows : National → List ℕ → ℕ → List ℕ
-itemsRows national sheet zero = []
-itemsRows national sheet (suc i) = itemsRows national sheet i ++ itemRows national sheet i
-
 -- "REFUSED, number, item"
 abbrev pub refusedRow : ℕ → ℕ → List ℕ
 refusedRow number item = (82 ∷ 69 ∷ 70 ∷ 85 ∷ 83 ∷ 69 ∷ 68 ∷ 32 ∷ []) ++ row (number ∷ item ∷ [])
 
--- "A refused sheet gives one line only"
+-- the header, then the roofs in their order, document 02, A7; "A refused sheet gives one line only"
 unfoldable pub listingBy : Answer ℕ → List ℕ → List ℕ
-listingBy (accepted n) sheet = header ++ itemsRows recommendedFigures sheet n
+listingBy (accepted n) sheet = header ++ roofsRows recommendedFigures sheet (roofOrder sheet n) (n - 1)
 listingBy (refused number item) sheet = refusedRow number item
 
 unfoldable pub listing : List ℕ → List ℕ

@@ -1,6 +1,5 @@
 // The listing of a sheet: its text, written into bytes that the caller lends.
 mod rows;
-mod sheets;
 
 ghost use mathlib.Core.Path.{_≡_};
 ghost use Prim.Native.Nat.{_≤_};
@@ -10,10 +9,11 @@ ghost use Rattle.ceilings.specs.Ceilings.{terminals};
 ghost use Rattle.pairs.specs.Pairs.{accepted};
 ghost use Rattle.sheet.specs.Sheet.{sheetVerdict};
 ghost use Rattle.text.specs.Text.{Wrote};
-pub use roof_rows::NUMBERS;
 use sheet::Caller;
 use sheet::Verdict;
 use sheet::verdict;
+pub use sheet_rows::NUMBERS;
+use sheet_rows::list_roofs;
 
 // Room for the listing of any sheet, in bytes.
 pub const LIST_ROOM: usize = 267_373;
@@ -24,7 +24,7 @@ fn list_accepted(sheet: &[u8], n: usize, numbers: &mut [u32; NUMBERS], out: &mut
     ensures { λ r. ⌜ Wrote (now (out .entry)) 0 (listingBy (accepted n) (now (sheet .entry))) (now (out .exit)) r ⌝ }
 {
     let a = rows::put_header(out);
-    sheets::list_items(sheet, n, numbers, out, a)
+    list_roofs(sheet, n, numbers, out, a)
 }
 
 // Writes the listing of any bytes as a sheet at the front of the lent bytes, and answers how many bytes it has. Where

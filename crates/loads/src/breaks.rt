@@ -90,7 +90,7 @@ pub fn wall_load(
     factor: u64,
     sk: u64,
 ) -> u64
-    requires { ⌜ NationalIn national × (b1 + b2 ≤ 200000) × Within 1 30000 h × SlopeIn slope × (guard ≤ 1) × (ls ≡ abuttingLength national h) × Within 1000 30000 ls × Ground factor sk ⌝ }
+    requires { ⌜ NationalIn national × (b1 + b2 ≤ 300000) × Within 1 30000 h × SlopeIn slope × (guard ≤ 1) × (ls ≡ abuttingLength national h) × Within 1000 30000 ls × Ground factor sk ⌝ }
     ensures { λ r. ⌜ (r ≡ breakLoad parts (wallLoad national factor sk b1 b2 h slope guard)) × (r ≤ largestBreak) ⌝ }
 {
     let wind = up(wind_numerator(national, b1 + b2, h, sk) * factor, 200 * h);

@@ -55,7 +55,7 @@ fn limited(x: u64, depth: u64, high: u64, low: u64) -> u64
 
 // 200 × h × sk times μw, limited above by 2h/sk and the upper value, then below by the lower value (5.3.6).
 pub fn wind_numerator(national: National, b: u64, h: u64, sk: u64) -> u64
-    requires { ⌜ NationalIn national × (b ≤ 200000) × (h ≤ 30000) × (sk ≤ 25000) ⌝ }
+    requires { ⌜ NationalIn national × (b ≤ 300000) × (h ≤ 30000) × (sk ≤ 25000) ⌝ }
     ensures { λ r. ⌜ (r ≡ windNum national b h sk) × (r ≤ 1600 * h * sk) ⌝ }
 {
     let high = 2 * h * (national.high as u64) * sk;

@@ -11,7 +11,8 @@ use Rattle.figures.specs.declared.site.Site.{Site}
 use Rattle.figures.specs.declared.roof.Slope.{Slope}
 use Rattle.figures.specs.declared.roof.Shape.{Shape}
 use Rattle.figures.specs.declared.roof.Roof.{Roof}
-use Rattle.standard.specs.Forces.{SlopeAt, noSlope, someSlope, slopeAt, wholeLoad, largerWhole, overhangForce, guardForce}
+use Rattle.figures.specs.Slopes.{SlopeAt, noSlope, someSlope, slopeAt}
+use Rattle.standard.specs.Forces.{wholeLoad, largerWhole, overhangForce, guardForce}
 use Rattle.standard.specs.Forces.{force, none, refused, overhangAt, overhangAnswer, guardAt, guardAnswer}
 
 -- products of figures up to a million

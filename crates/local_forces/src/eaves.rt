@@ -3,15 +3,16 @@ ghost use mathlib.Core.Path.{_≡_};
 ghost use Prim.Native.Nat.{_≤_};
 ghost use Rattle.figures.specs.SiteRules.{siteRefusal};
 ghost use Rattle.local_forces.specs.Answers.{forceMeans};
-ghost use Rattle.slope_loads.specs.Slopes.{AcceptedShape};
-ghost use Rattle.standard.specs.Forces.{slopeAt, largerUnrounded, overhangForce, overhangAt, overhangAnswer, overhangDistance};
+ghost use Rattle.figures.specs.Slopes.{AcceptedShape};
+ghost use Rattle.figures.specs.Slopes.{slopeAt};
+ghost use Rattle.standard.specs.Forces.{largerUnrounded, overhangForce, overhangAt, overhangAnswer, overhangDistance};
 use crate::answers::LocalForce;
 use figures::Roof;
 use figures::Shape;
 use figures::Site;
-use slope_loads::RoofSlope;
+use roof_slopes::RoofSlope;
+use roof_slopes::slope_of;
 use slope_loads::larger_load;
-use slope_loads::slope_of;
 
 // Overhangs count above this altitude, in m.
 const OVERHANGS_ABOVE: u16 = 800;

@@ -5,16 +5,17 @@ ghost use Rattle.figures.specs.Bounds.{SlopeIn};
 ghost use Rattle.figures.specs.SiteRules.{siteRefusal};
 ghost use Rattle.local_forces.specs.Answers.{forceMeans};
 ghost use Rattle.rounding.specs.Up.{ceilDiv};
-ghost use Rattle.slope_loads.specs.Slopes.{AcceptedShape};
-ghost use Rattle.standard.specs.Forces.{slopeAt, guardForce, guardAt, guardAnswer, guardDistance};
+ghost use Rattle.figures.specs.Slopes.{AcceptedShape};
+ghost use Rattle.figures.specs.Slopes.{slopeAt};
+ghost use Rattle.standard.specs.Forces.{guardForce, guardAt, guardAnswer, guardDistance};
 use crate::answers::LocalForce;
 use figures::Roof;
 use figures::Shape;
 use figures::Site;
 use figures::Slope;
+use roof_slopes::RoofSlope;
+use roof_slopes::slope_of;
 use sines::sine;
-use slope_loads::RoofSlope;
-use slope_loads::slope_of;
 use slope_loads::whole_load;
 
 // A count of billionths, rounded up to a whole number.

@@ -1,9 +1,9 @@
 -- The count and the pairs of a sheet, and the verdict on them: refusals 1 and 2.
-use Prim.Native.Nat.{ℕ, zero, suc, _+_, _*_}
+use Prim.Native.Nat.{ℕ, zero, suc, _+_, _*_, _≤_, _<_}
 use mathlib.Core.Bool.{cond, _&&_}
 use mathlib.Core.List.{List}
 use lib.Dec.{leb, eqb}
-use lib.ListN.{length}
+use lib.ListN.{length, take, drop}
 use Rattle.little_endian.specs.Numbers.{le16}
 use Rattle.ceilings.specs.Ceilings.{fits}
 use Rattle.ceilings.specs.declared.Ceiling.{Ceiling}
@@ -43,6 +43,23 @@ inTurn number n i (suc k) = cond (eqb (number i) 0) (inTurn number n (suc i) k) 
 -- "Order: 1; 2 over all pairs in turn, the first bad one named"; document 02, A6: 1 "in its old place"
 unfoldable pub pairsVerdict : Ceiling → List ℕ → Answer ℕ
 pairsVerdict ceiling s = cond (fits ceiling (length s) (count s)) (inTurn (pairNumber s) (count s) 0 (count s)) (refused 1 0)
+
+-- one rule after another: the first refusal stands
+abbrev pub andThen : {A B : Type 0} → Answer A → Answer B → Answer B
+andThen (accepted a) next = next
+andThen (refused number item) next = refused number item
+
+-- item i, as a part of the sheet
+abbrev pub part : List ℕ → ℕ → List ℕ
+part s i = take (size s i) (drop (offset s i) s)
+
+-- an item that lies in the sheet, its pair too; and the first n items
+pub record PartIn (s : List ℕ) (i : ℕ) : Type 0 where
+  pub pair : 2 + 4 * i + 4 ≤ length s
+  pub within : offset s i + size s i ≤ length s
+
+abbrev pub PartsIn : List ℕ → ℕ → Type 0
+PartsIn s n = (i : ℕ) → i < n → PartIn s i
 
 -- what an answer of `verdict` says
 abbrev pub verdictMeans : Verdict → Answer ℕ

@@ -2,7 +2,7 @@
 ghost use mathlib.Core.Path.{_≡_};
 ghost use Prim.Native.Nat.{_+_, _*_, _≤_};
 ghost use lib.ListN.{length};
-ghost use Rattle.pairs.specs.Pairs.{count, offset, size, pairNumber, inTurn, pairsVerdict, verdictMeans};
+ghost use Rattle.pairs.specs.Pairs.{count, offset, size, pairNumber, inTurn, pairsVerdict, part, PartIn, verdictMeans};
 use ceilings::Ceiling;
 use little_endian::index_at;
 use pair_words::Pair;
@@ -27,6 +27,16 @@ pub fn pair_at(s: &[u8], i: usize) -> Pair
 {
     let at = 2 + 4 * i;
     split(word(s[at], s[at + 1], s[at + 2], s[at + 3]))
+}
+
+// The item that a pair lies at, where both are within the sheet.
+pub fn part_at<'a>(s: &'a [u8], index: usize) -> &'a [u8]
+    requires { ⌜ PartIn (now s) index ⌝ }
+    ensures { λ r. ⌜ now r ≡ part (now (s .entry)) index ⌝ }
+{
+    let pair = pair_at(s, index);
+    let start = pair.offset as usize;
+    &s[start..start + pair.size as usize]
 }
 
 // The n pairs in turn.

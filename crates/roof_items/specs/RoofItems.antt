@@ -1,10 +1,11 @@
--- The items of a roof that has no spans beside it: kinds 2, 3, 5, 6 and 7 of document 01.
+-- The items of a roof that has no spans beside it: kinds 2, 3, 5, 6 and 7 of document 01, and kind 10 of document 02.
 use Prim.Native.Nat.{ℕ}
+use mathlib.Core.Bool.{false}
 use mathlib.Core.List.{List}
 use Rattle.figures.specs.declared.roof.Shape.the-variants.{Monopitch, Pitched, Cylindrical, Abutting, Projection}
 use Rattle.little_endian.specs.Numbers.{byteAt, le32}
 use Rattle.item_forms.specs.Forms.{itemAlone, sized, slopeAt}
-use Rattle.item_forms.specs.declared.Item.the-variants.{RoofItem}
+use Rattle.item_forms.specs.declared.Item.the-variants.{RoofItem, LowerItem}
 use Rattle.item_forms.specs.declared.Decoded.{Decoded}
 
 -- 2, monopitch, 8 bytes: pitch (16), guard (8), width (32)
@@ -21,8 +22,12 @@ cylindricalItem p = sized 9 p (itemAlone (RoofItem (Cylindrical (le32 p 1) (le32
 
 -- 6, lower flat roof at a taller one, 20 bytes: b1, b2, h, slope width (32 each), pitch (16), guard (8)
 unfoldable pub abuttingItem : List ℕ → Decoded
-abuttingItem p = sized 20 p (itemAlone (RoofItem (Abutting (le32 p 1) (le32 p 5) (le32 p 9) (slopeAt p 17 13) (byteAt p 19))))
+abuttingItem p = sized 20 p (itemAlone (RoofItem (Abutting (le32 p 1) (le32 p 5) (le32 p 9) (slopeAt p 17 13) (byteAt p 19) false)))
 
 -- 7, projection on a flat roof, 13 bytes: h, width to its left, width to its right (32 each)
 unfoldable pub projectionItem : List ℕ → Decoded
 projectionItem p = sized 13 p (itemAlone (RoofItem (Projection (le32 p 1) (le32 p 5) (le32 p 9))))
+
+-- "Item kind 10, 11 bytes: b2 and h (32 each), the index of the upper item (8), its adjacent side (8: 0 left, 1 right)"
+unfoldable pub lowerItem : List ℕ → Decoded
+lowerItem p = sized 11 p (itemAlone (LowerItem (record { b2 = le32 p 1; h = le32 p 5; upper = byteAt p 9; side = byteAt p 10 })))

@@ -1,6 +1,7 @@
-// The items of a roof that has no spans beside it, kinds 2, 3, 5, 6 and 7.
+// The items of a roof that has no spans beside it, kinds 2, 3, 5, 6, 7 and 10.
 ghost use mathlib.Core.Path.{_≡_};
-ghost use Rattle.roof_items.specs.RoofItems.{monopitchItem, pitchedItem, cylindricalItem, abuttingItem, projectionItem};
+ghost use Rattle.roof_items.specs.RoofItems.{monopitchItem, pitchedItem, cylindricalItem, abuttingItem, projectionItem, lowerItem};
+use figures::LowerRoof;
 use figures::Shape;
 use item_forms::Decoded;
 use item_forms::ITEM_LENGTH;
@@ -67,6 +68,7 @@ pub fn abutting_item(p: &[u8]) -> Decoded
         h: u32_at(p, 9),
         slope: slope_at(p, 17, 13),
         guard: p[19],
+        stepped: false,
     };
     alone(Item::RoofItem(shape))
 }
@@ -84,4 +86,20 @@ pub fn projection_item(p: &[u8]) -> Decoded
         right: u32_at(p, 9),
     };
     alone(Item::RoofItem(shape))
+}
+
+// A lower roof that takes its upper figures from another item of its sheet.
+pub fn lower_item(p: &[u8]) -> Decoded
+    ensures { λ r. ⌜ r ≡ lowerItem (now (p .entry)) ⌝ }
+{
+    if p.len() != 11 {
+        return refused(ITEM_LENGTH);
+    }
+    let lower = LowerRoof {
+        b2: u32_at(p, 1),
+        h: u32_at(p, 5),
+        upper: p[9],
+        side: p[10],
+    };
+    alone(Item::LowerItem(lower))
 }

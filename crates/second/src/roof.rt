@@ -86,6 +86,7 @@ pub fn segment_at(roof: Roof, code: u8, sk: u32, i: usize) -> Segment
             h,
             slope,
             guard,
+            ..
         } => {
             if (base == 2) & (i == 0) {
                 at_wall(b1, b2, h, slope, guard, sk)

@@ -38,6 +38,7 @@ pub fn count_in(national: National, shape: Shape, spans: &[u32; SPAN_NUMBERS], c
             h,
             slope: _,
             guard: _,
+            stepped: _,
         } => abutting_count(national, b2 as u64, h as u64, code == 1),
         Shape::Projection { h, left, right } => projection_count(
             h as u64,
@@ -84,6 +85,7 @@ pub fn ramp_in(
             h,
             slope,
             guard,
+            stepped: _,
         } => abutting_ramp(
             national,
             b1 as u64,
@@ -128,6 +130,7 @@ pub fn end(shape: Shape, spans: &[u32; SPAN_NUMBERS]) -> u64
             h: _,
             slope: _,
             guard: _,
+            stepped: _,
         } => 4 * (b2 as u64),
         Shape::Projection { h: _, left, right } => 4 * (left as u64 + right as u64),
     }

@@ -10,11 +10,12 @@ use Rattle.ceilings.specs.Ceilings.{fits, ceilingOf}
 use Rattle.ceilings.specs.declared.Caller.{Caller}
 use Rattle.ceilings.specs.declared.Caller.the-variants.{Terminal, Desk}
 use Rattle.ceilings.specs.declared.Ceiling.{Ceiling}
-use Rattle.pairs.specs.Pairs.{Answer, refused, count, pairNumber, inTurn, pairsVerdict, verdictMeans}
+use Rattle.pairs.specs.Pairs.{Answer, refused, count, pairNumber, inTurn, pairsVerdict, andThen, verdictMeans}
+use Rattle.upper_rules.specs.UpperRules.{uppersVerdict}
 use Rattle.pairs.specs.declared.Verdict.{Verdict}
 use Rattle.pairs.specs.declared.Verdict.the-variants.{Accepted, Refused}
 use Rattle.sheet.specs.Readers.{sheetInside, Read}
-use Rattle.sheet.specs.Sheet.{Place, itemNumber, andThen, sheetVerdict, placeBy, place, partAt, locatedMeans}
+use Rattle.sheet.specs.Sheet.{Place, itemNumber, sheetVerdict, placeBy, place, partAt, locatedMeans}
 use Rattle.sheet.specs.declared.reader.Located.{Located}
 use Rattle.sheet.specs.declared.reader.Located.the-variants.{At, Nowhere}
 
@@ -52,7 +53,7 @@ module _ (low high : Ceiling) (h : Below low high) (s : List ℕ) where
   pub lower-verdict : sheetVerdict low s ≡ oneUnless (sheetInside low s) (sheetVerdict high s)
   unfolding sheetVerdict
   lower-verdict =
-      let walk = inTurn (itemNumber s) (count s) 0 (count s) in
+      let walk = andThen (inTurn (itemNumber s) (count s) 0 (count s)) (uppersVerdict s (count s)) in
       ap (λ (v : Answer ℕ). andThen v walk) lower-pairs ∙ then-tested (sheetInside low s) (pairsVerdict high s) walk
 
   module _ (i : ℕ) where

@@ -1,20 +1,17 @@
--- The sheet: the verdict on it, and its items. Refusals 3 to 10, 14 and 15 item by item, and 12 for an index.
-use Prim.Native.Nat.{ℕ, _+_, _*_, _≤_}
+-- The sheet: the verdict on it, and its items. Refusals 3 to 10, 14 and 15 item by item, 16 and 17 over all items, and 12 for an index.
+use Prim.Native.Nat.{ℕ, _<_}
 use mathlib.Core.Bool.{cond}
 use mathlib.Core.List.{List, []}
 use mathlib.Core.Path.{_≡_}
 use lib.Dec.{ltb}
-use lib.ListN.{length, take, drop}
+use lib.ListN.{take, drop}
 use Rattle.items.specs.Items.{content}
 use Rattle.item_rules.specs.Rules.{ruleOf}
 use Rattle.ceilings.specs.declared.Ceiling.{Ceiling}
-use Rattle.pairs.specs.Pairs.{Answer, accepted, refused, count, offset, size, inTurn, pairsVerdict}
+use Rattle.pairs.specs.Pairs.{Answer, accepted, refused, count, offset, size, inTurn, pairsVerdict, andThen, part, PartIn}
+use Rattle.upper_rules.specs.UpperRules.{uppersVerdict}
 use Rattle.sheet.specs.declared.reader.Located.{Located}
 use Rattle.sheet.specs.declared.reader.Located.the-variants.{At, Nowhere}
-
--- item i, as a part of the sheet
-abbrev pub part : List ℕ → ℕ → List ℕ
-part s i = take (size s i) (drop (offset s i) s)
 
 -- "then item by item empty (4), 3, 4, 5, and the value rules": the first rule that item i breaks
 unfoldable pub itemNumber : List ℕ → ℕ → ℕ
@@ -22,18 +19,20 @@ itemNumber s i = ruleOf i (content (part s i))
 
 -- an item that lies in the sheet, its pair too, and breaks no rule
 pub record ItemIn (s : List ℕ) (i : ℕ) : Type 0 where
-  pub pair : 2 + 4 * i + 4 ≤ length s
-  pub within : offset s i + size s i ≤ length s
+  pub part : PartIn s i
   pub sound : itemNumber s i ≡ 0
 
--- one rule after another: the first refusal stands
-abbrev pub andThen : {A B : Type 0} → Answer A → Answer B → Answer B
-andThen (accepted a) next = next
-andThen (refused number item) next = refused number item
-
--- the verdict on a sheet: its pairs, then its items in turn; accepted with its count
+-- the verdict on a sheet: its pairs, then its items in turn, then their upper items; accepted with its count
 unfoldable pub sheetVerdict : Ceiling → List ℕ → Answer ℕ
-sheetVerdict ceiling s = andThen (pairsVerdict ceiling s) (inTurn (itemNumber s) (count s) 0 (count s))
+sheetVerdict ceiling s =
+    andThen (pairsVerdict ceiling s) (andThen (inTurn (itemNumber s) (count s) 0 (count s)) (uppersVerdict s (count s)))
+
+-- one of the items of a sheet that is accepted under some ceiling
+pub record ItemOf (s : List ℕ) (i : ℕ) : Type 0 where
+  pub ceiling : Ceiling
+  pub items : ℕ
+  pub verdict : sheetVerdict ceiling s ≡ accepted items
+  pub below : i < items
 
 -- where an item lies in the sheet
 pub record Place : Type 0 where

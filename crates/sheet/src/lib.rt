@@ -1,5 +1,5 @@
 // A sheet as bytes, by who reads it: the verdict on it, where an item lies, and the item as a part of the sheet; a pair's
-// word, split and joined. Every call takes any bytes, but `part_at`, which is for the crates above.
+// word, split and joined. Every call takes any bytes.
 mod reader;
 
 pub use ceilings::Caller;
@@ -11,5 +11,4 @@ pub use pairs::Verdict;
 pub use reader::Located;
 pub use reader::item;
 pub use reader::locate;
-pub use reader::part_at;
 pub use reader::verdict;

@@ -1,17 +1,18 @@
 // The reader: every rule on a sheet in document 01's order, under the ceiling of the caller that reads it, and its items.
 ghost use mathlib.Core.Path.{_≡_};
-ghost use Prim.Native.Nat.{_+_, _*_, _≤_};
-ghost use lib.ListN.{length};
+ghost use Prim.Native.Nat.{_≤_};
 ghost use Rattle.ceilings.specs.Ceilings.{ceilingOf};
-ghost use Rattle.pairs.specs.Pairs.{accepted, offset, size, inTurn, pairsVerdict, verdictMeans};
-ghost use Rattle.sheet.specs.Sheet.{part, itemNumber, sheetVerdict, place, partAt, locatedMeans};
+ghost use Rattle.pairs.specs.Pairs.{inTurn, andThen, PartsIn, verdictMeans};
+ghost use Rattle.sheet.specs.Sheet.{itemNumber, sheetVerdict, place, partAt, locatedMeans};
+ghost use Rattle.upper_rules.specs.UpperRules.{uppersVerdict};
 use ceilings::Caller;
-use ceilings::Ceiling;
 use ceilings::ceiling_of;
 use item_rules::item_number;
 use pairs::Verdict;
 use pairs::pair_at;
+use pairs::part_at;
 use pairs::read_pairs;
+use upper_rules::uppers_verdict;
 
 // The refusal of an index, by document 01's number.
 const NO_SUCH_ITEM: u8 = 12;
@@ -22,19 +23,9 @@ pub enum Located {
     Nowhere(u8, usize),
 }
 
-// The item that a pair lies at, where both are within the sheet.
-pub fn part_at<'a>(s: &'a [u8], index: usize) -> &'a [u8]
-    requires { ⌜ (2 + 4 * index + 4 ≤ length (now s)) × (offset (now s) index + size (now s) index ≤ length (now s)) ⌝ }
-    ensures { λ r. ⌜ now r ≡ part (now (s .entry)) index ⌝ }
-{
-    let pair = pair_at(s, index);
-    let start = pair.offset as usize;
-    &s[start..start + pair.size as usize]
-}
-
-// The n items in turn, where the pairs are accepted.
-fn check_items(s: &[u8], ceiling: Ceiling, n: usize) -> Verdict
-    requires { ⌜ pairsVerdict ceiling (now s) ≡ accepted n ⌝ }
+// The n items in turn, where they lie in the sheet.
+fn check_items(s: &[u8], n: usize) -> Verdict
+    requires { ⌜ PartsIn (now s) n ⌝ }
     ensures { λ r. ⌜ verdictMeans r ≡ inTurn (itemNumber (now (s .entry))) n 0 n ⌝ }
 {
     let mut i = 0;
@@ -48,6 +39,17 @@ fn check_items(s: &[u8], ceiling: Ceiling, n: usize) -> Verdict
     Verdict::Accepted(n)
 }
 
+// The n items in turn, then the rules on their upper items.
+fn items_verdict(s: &[u8], n: usize) -> Verdict
+    requires { ⌜ PartsIn (now s) n × (n ≤ 32) ⌝ }
+    ensures { λ r. ⌜ verdictMeans r ≡ andThen (inTurn (itemNumber (now (s .entry))) n 0 n) (uppersVerdict (now (s .entry)) n) ⌝ }
+{
+    match check_items(s, n) {
+        Verdict::Refused(number, item) => Verdict::Refused(number, item),
+        Verdict::Accepted(_) => uppers_verdict(s, n),
+    }
+}
+
 // The verdict on any bytes as a sheet of a caller's: accepted with its count, or the first broken rule's number and item.
 // A sheet that passes the caller's ceiling is refused by 1 before any pair is read.
 pub fn verdict(s: &[u8], caller: Caller) -> Verdict
@@ -56,7 +58,7 @@ pub fn verdict(s: &[u8], caller: Caller) -> Verdict
     let ceiling = ceiling_of(caller);
     match read_pairs(s, ceiling) {
         Verdict::Refused(number, item) => Verdict::Refused(number, item),
-        Verdict::Accepted(n) => check_items(s, ceiling, n),
+        Verdict::Accepted(n) => items_verdict(s, n),
     }
 }
 

@@ -1,9 +1,9 @@
 -- A sheet with a map site is read as the sheet with the kind 1 site of its load: the verdict, the site and the roofs.
-use Prim.Native.Nat.{ℕ, zero, suc, _+_, _*_, _/_, _%_, _≤_, _<_}
-use mathlib.Core.Bool.{Bool, true, false, cond}
+use Prim.Native.Nat.{ℕ, zero, suc, _+_, _-_, _*_, _/_, _%_, _≤_, _<_}
+use mathlib.Core.Bool.{Bool, true, false, cond, _&&_}
 use mathlib.Core.List.{List}
-use mathlib.Core.Path.{_≡_, refl, sym, ap, _∙_}
-use borrow.Author.Tests.{ltb-true}
+use mathlib.Core.Path.{_≡_, refl, sym, ap, fun-ext, _∙_}
+use borrow.Author.Tests.{ltb-true, lt-ltb}
 use lib.Dec.{ltb}
 use lib.ListN.{length}
 use native.Mathlib.Omega.{arith}
@@ -15,14 +15,22 @@ use Rattle.items.specs.Items.{byKind, content}
 use Rattle.site_items.specs.SiteItems.{siteDataAt, siteItem, mapSiteItem}
 use Rattle.item_forms.specs.Forms.{sized}
 use Rattle.item_forms.specs.declared.Item.{Item}
-use Rattle.item_forms.specs.declared.Item.the-variants.{SiteItem}
+use Rattle.item_forms.specs.declared.Item.the-variants.{SiteItem, RoofItem, LowerItem, Malformed}
 use Rattle.little_endian.specs.Numbers.{byteAt}
 use Rattle.ceilings.specs.Ceilings.{terminals}
-use Rattle.pairs.specs.Pairs.{Answer, accepted, refused, offset, size, inTurn}
-use Rattle.sheet.proofs.Kept.{pairs-kept, sheet-kept, sheet-items}
-use Rattle.item_rules.specs.Figures.{siteBy}
+use Rattle.pairs.specs.Pairs.{Answer, accepted, refused, offset, size, inTurn, andThen, part}
+use Rattle.pairs.proofs.Kept.{pairs-kept}
+use Rattle.figures.specs.Rules.{refusedIf}
+use Rattle.circles.specs.Following.{comesBack}
+use Rattle.upper_items.specs.Uppers.{itemAt, isLower, upperIndex, upper, roofOrder}
+use Rattle.upper_rules.specs.UpperRules.{mayStandAbove, upperNumber, circleNumber, uppersVerdict}
+use Rattle.upper_rules.proofs.Kept.{upper-below}
+use Rattle.stepped_roofs.specs.Stepped.{isUpper, upperShape}
+use Rattle.order.specs.Order.{order}
+use Rattle.sheet.proofs.Kept.{sheet-kept, sheet-items}
+use Rattle.item_rules.specs.Figures.{siteBy, roofBy}
 use Rattle.item_rules.specs.Rules.{ruleNumber}
-use Rattle.sheet.specs.Sheet.{part, itemNumber, sheetVerdict, placeBy, place}
+use Rattle.sheet.specs.Sheet.{itemNumber, sheetVerdict, placeBy, place}
 use Rattle.sheet_figures.specs.Find.{sheetSite, sheetRoof, foundIn, foundBy, found}
 use Rattle.sheet_figures.specs.MapSites.{givenItem, GivenLoad}
 
@@ -74,39 +82,92 @@ module _ (s t : List ℕ) (n : ℕ) (g : GivenLoad s t n) where
       g .sound ∙ sym (ap (λ (x : Item). ruleNumber 0 x (content (part t 0) .spans)) given-site ∙ site-accepted d kept)
   same-number (suc i) a b = rw (g .others (suc i) (omega arith) (omega arith))
 
+  -- what tells no site from another tells no item of s from that of t
+  same-by : {A : Type 0} (f : Item → A) → ((a b : SiteData) → f (SiteItem a) ≡ f (SiteItem b)) → (i : ℕ) → i < n → f (itemAt s i) ≡ f (itemAt t i)
+  same-by f h zero l = ap f site ∙ (h d (asGiven d) ∙ sym (ap f given-site))
+  same-by f h (suc i) l = ap (λ (p : List ℕ). f (content p .item)) (g .others (suc i) (omega arith) l)
+
+  same-upper : upper s n ≡ upper t n
+  unfolding upper
+  same-upper = fun-ext (λ i. by-test i (ltb i n) refl)
+    where
+      by-test : (i : ℕ) (b : Bool) → ltb i n ≡ b → cond b (upperIndex (itemAt s i)) 0 ≡ cond b (upperIndex (itemAt t i)) 0
+      by-test i true e = same-by upperIndex (λ a b. refl) i (ltb-true i n e)
+      by-test i false e = refl
+
+  same-above : (i : ℕ) → mayStandAbove s n i ≡ mayStandAbove t n i
+  same-above i = by-test (ltb i n) refl
+    where
+      by-test : (b : Bool) → ltb i n ≡ b → (b && isUpper (itemAt s i)) ≡ (b && isUpper (itemAt t i))
+      by-test true e = same-by isUpper (λ a b. refl) i (ltb-true i n e)
+      by-test false e = refl
+
+  same-sixteen : (i : ℕ) → 0 ≤ i → i < 0 + n → upperNumber s n i ≡ upperNumber t n i
+  unfolding upperNumber
+  same-sixteen i a b =
+      rw (same-by isLower (λ x y. refl) i (omega arith), same-by upperIndex (λ x y. refl) i (omega arith), same-above (upperIndex (itemAt t i)))
+
+  same-uppers : uppersVerdict s n ≡ uppersVerdict t n
+  unfolding uppersVerdict circleNumber
+  same-uppers =
+      let circles : inTurn (circleNumber s n) n 1 (n - 1) ≡ inTurn (circleNumber t n) n 1 (n - 1) =
+      ap (λ (up : ℕ → ℕ). inTurn (λ i. refusedIf (comesBack up n i) 17) n 1 (n - 1)) same-upper in
+      rw (same-walk (upperNumber s n) (upperNumber t n) n 0 n same-sixteen, circles)
+
   pub same-verdict : sheetVerdict terminals s ≡ sheetVerdict terminals t
   same-verdict =
-      sym (sheet-items terminals s n (g .pairs))
-      ∙ (same-walk (itemNumber s) (itemNumber t) n 0 n same-number ∙ sheet-items terminals t n (g .given-pairs))
+      let items : andThen (inTurn (itemNumber s) n 0 n) (uppersVerdict s n) ≡ andThen (inTurn (itemNumber t) n 0 n) (uppersVerdict t n) =
+      rw (same-walk (itemNumber s) (itemNumber t) n 0 n same-number, same-uppers) in
+      sym (sheet-items terminals s n (g .pairs)) ∙ (items ∙ sheet-items terminals t n (g .given-pairs))
+
+  pub same-order : roofOrder s n ≡ roofOrder t n
+  same-order = ap (λ (up : ℕ → ℕ). order up n) same-upper
 
   pub same-site : sheetSite s ≡ sheetSite t
   unfolding sheetSite
   same-site = ap siteBy site ∙ sym (ap siteBy given-site)
 
-  pub same-roof : (i : ℕ) → 0 < i → i < n → sheetRoof s i ≡ sheetRoof t i
-  unfolding sheetRoof
-  same-roof i a b = rw (g .others i a b)
-
   -- an accepted sheet has the count of its pairs
   pub counted : (m : ℕ) → sheetVerdict terminals s ≡ accepted m → m ≡ n
   counted m e = sheet-kept terminals s m e .pairs .counted ∙ sym (pairs-kept terminals s n (g .pairs) .counted)
 
-  same-in : (i : ℕ) → i < n → foundIn s i ≡ foundIn t i
-  same-in zero h = rw same-site
-  same-in (suc i) h = rw (same-site, same-roof (suc i) (omega arith) h)
+  module _ (m : ℕ) (v : sheetVerdict terminals s ≡ accepted m) where
+    above-below : (i : ℕ) → i < n → upperIndex (itemAt s i) < n
+    unfolding upper
+    above-below i h =
+        let e = counted m v in
+        let b : upper s n i < n = upper-below s n (rw e at (sheet-kept terminals s m v .uppers)) i h in
+        rw (lt-ltb i n h) at b
+
+    pub same-roof : (i : ℕ) → 0 < i → i < n → sheetRoof s i ≡ sheetRoof t i
+    unfolding sheetRoof
+    same-roof i a b =
+        let e = same-by upperShape (λ x y. refl) (upperIndex (itemAt s i)) (above-below i b) in
+        by-upper (itemAt s i) (content (part s i) .spans) _ _ e
+        ∙ ap (λ (p : List ℕ). roofBy (content p .item) (content p .spans) (itemAt t (upperIndex (content p .item)))) (g .others i a b)
+      where
+        by-upper : (x : Item) (l : List ℕ) (y z : Item) → upperShape y ≡ upperShape z → roofBy x l y ≡ roofBy x l z
+        by-upper (SiteItem fields) l y z e = refl
+        by-upper (RoofItem shape) l y z e = refl
+        by-upper (LowerItem lower) l y z e = rw e
+        by-upper (Malformed number) l y z e = refl
+
+    same-in : (i : ℕ) → i < n → foundIn s i ≡ foundIn t i
+    same-in zero h = rw same-site
+    same-in (suc i) h = rw (same-site, same-roof (suc i) (omega arith) h)
 
   module _ (i : ℕ) where
     by-index :
-        (b : Bool) → ltb i n ≡ b
+        (m : ℕ) → sheetVerdict terminals s ≡ accepted m → (b : Bool) → ltb i n ≡ b
         → foundBy (cond b (accepted (record { start = offset s i; bytes = size s i })) (refused 12 i)) s i
         ≡ foundBy (cond b (accepted (record { start = offset t i; bytes = size t i })) (refused 12 i)) t i
-    by-index true e = same-in i (ltb-true i n e)
-    by-index false e = refl
+    by-index m v true e = same-in m v i (ltb-true i n e)
+    by-index m v false e = refl
 
     by-verdict : (v : Answer ℕ) → sheetVerdict terminals s ≡ v → foundBy (placeBy v s i) s i ≡ foundBy (placeBy v t i) t i
     unfolding placeBy
     by-verdict (refused number item) e = refl
-    by-verdict (accepted m) e = rw (counted m e) (by-index (ltb i n) refl)
+    by-verdict (accepted m) e = rw (counted m e) (by-index m e (ltb i n) refl)
 
     -- every call on an item has the same figures, or the same refusal
     pub same-found : found s i ≡ found t i

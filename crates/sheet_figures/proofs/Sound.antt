@@ -1,49 +1,126 @@
--- Items that break no rule: the first says an accepted site, each later one an accepted roof. What `find` hands on is accepted.
+-- Items of an accepted sheet: the first says an accepted site, each later one an accepted roof, a lower roof by its upper item. What
+-- `find` hands on is accepted.
 use Prim.Native.Nat.{ℕ, zero, suc, _-_, _<_}
-use mathlib.Core.List.{List}
-use mathlib.Core.Path.{_≡_, refl}
+use mathlib.Core.Bool.{true, false}
+use mathlib.Core.List.{List, [], _∷_}
+use mathlib.Core.Logic.{inl, inr}
+use mathlib.Core.Path.{_≡_, refl, sym, ap, subst, _∙_}
 use native.Mathlib.Omega.{arith}
-use Rattle.figures.specs.RoofRules.{roofRefusal}
+use types.Run.{OneOf}
+use Rattle.figures.specs.Ranges.{within}
+use Rattle.figures.specs.RoofRules.{kindOf, noSpans, roofOf, roofRefusal}
 use Rattle.figures.specs.SiteRules.{siteRefusal}
+use Rattle.figures.specs.Slopes.{AcceptedShape}
 use Rattle.figures.specs.declared.site.Site.{Site}
+use Rattle.figures.specs.declared.roof.LowerRoof.{LowerRoof}
+use Rattle.figures.specs.declared.roof.Shape.{Shape}
 use Rattle.figures.specs.declared.roof.Roof.{Roof}
 use Rattle.map_sites.proofs.Kept.{site-accepted}
 use Rattle.items.proofs.Numbered.{Numbered, numbered}
 use Rattle.items.specs.Items.{content}
 use Rattle.item_forms.specs.declared.Item.{Item}
-use Rattle.item_forms.specs.declared.Item.the-variants.{SiteItem, RoofItem, Malformed}
+use Rattle.item_forms.specs.declared.Item.the-variants.{SiteItem, RoofItem, LowerItem, Malformed}
 use Rattle.item_forms.specs.declared.Decoded.{Decoded}
-use Rattle.sheet.proofs.Kept.{located-in}
-use Rattle.sheet_figures.specs.Find.{sheetSite, sheetRoof, foundIn, foundBy, found}
+use Rattle.item_forms.proofs.Variants.{variant}
+use Rattle.stepped_roofs.specs.Stepped.{isUpper, upperShape, steppedShape}
+use Rattle.stepped_roofs.proofs.Uppers.{flat-accepted, stepped-accepted}
+use Rattle.circles.proofs.Tests.{clash}
+use Rattle.upper_items.specs.Uppers.{itemAt, isLower, upperIndex}
+use Rattle.upper_rules.proofs.Kept.{Above, stands-above}
+use Rattle.pairs.proofs.Kept.{parts-in}
+use Rattle.sheet.proofs.Kept.{SheetKept, sheet-kept, item-in, located-of}
+use Rattle.sheet_figures.specs.Find.{sheetSite, sheetRoof, OwnRoof, foundIn, foundBy, found}
 use Rattle.ceilings.specs.Ceilings.{terminals}
-use Rattle.pairs.specs.Pairs.{Answer, accepted, refused}
+use Rattle.pairs.specs.Pairs.{Answer, accepted, refused, part, PartIn}
 use Rattle.item_rules.specs.Figures.{noSite, noRoof, siteBy, roofBy}
 use Rattle.item_rules.specs.Rules.{ruleNumber, ruleOf}
-use Rattle.sheet.specs.Sheet.{Place, part, itemNumber, place}
+use Rattle.sheet.specs.Sheet.{ItemIn, ItemOf, Place, itemNumber, place}
 use Rattle.sheet_figures.specs.declared.Finding.the-variants.{RoofFound, NoRoof, Refused}
 
 site-by : (x : Item) (l : List ℕ) → Numbered x → ruleNumber 0 x l ≡ 0 → siteRefusal (siteBy x) ≡ 0
 site-by (SiteItem fields) l n e = site-accepted fields e
 site-by (RoofItem shape) l n e = absurd (omega arith)
+site-by (LowerItem lower) l n e = absurd (omega arith)
 site-by (Malformed number) l n e = absurd (omega arith)
 
-roof-by : (i : ℕ) (x : Item) (l : List ℕ) → Numbered x → ruleNumber (suc i) x l ≡ 0 → roofRefusal (roofBy x l) ≡ 0
-roof-by i (SiteItem fields) l n e = absurd (omega arith)
-roof-by i (RoofItem shape) l n e = e
-roof-by i (Malformed number) l n e = absurd (omega arith)
+-- what an item that may stand above another is, where it breaks no rule: an accepted roof of kind 2 or 3
+pub record UpperIn (x : Item) : Type 0 where
+  pub shape : AcceptedShape (upperShape x)
+  pub kind : within 2 3 (kindOf (upperShape x)) ≡ true
+
+upper-by : (i : ℕ) (x : Item) (l : List ℕ) → ruleNumber i x l ≡ 0 → isUpper x ≡ true → UpperIn x
+upper-by i (SiteItem fields) l e u = clash u refl
+upper-by zero (RoofItem shape) l e u = absurd (omega arith)
+upper-by (suc i) (RoofItem shape) l e u = record { shape = record { spans = l; accepted = e }; kind = u }
+upper-by zero (LowerItem lower) l e u = absurd (omega arith)
+upper-by (suc i) (LowerItem lower) l e u = record { shape = record { spans = l; accepted = flat-accepted lower l e }; kind = refl }
+upper-by i (Malformed number) l e u = clash u refl
+
+roof-by :
+    (i : ℕ) (x above : Item) (l : List ℕ) → Numbered x → ruleNumber (suc i) x l ≡ 0 → (isLower x ≡ true → UpperIn above)
+    → roofRefusal (roofBy x l above) ≡ 0
+roof-by i (SiteItem fields) above l n e u = absurd (omega arith)
+roof-by i (RoofItem shape) above l n e u = e
+roof-by i (LowerItem lower) above l n e u =
+    let a = u refl in
+    stepped-accepted lower (upperShape above) (a .shape .spans) noSpans e (a .shape .accepted) (a .kind)
+roof-by i (Malformed number) above l n e u = absurd (omega arith)
+
+-- an item that is neither kind of roof says none
+pub no-own-roof : (x above : Item) (l : List ℕ) → isLower x ≡ false → OneOf (0 ∷ 2 ∷ 3 ∷ []) (variant x) → noRoof ≡ roofBy x l above
+no-own-roof (SiteItem fields) above l e v = refl
+no-own-roof (RoofItem shape) above l e (inl z) = absurd (omega arith)
+no-own-roof (RoofItem shape) above l e (inr (inl z)) = absurd (omega arith)
+no-own-roof (RoofItem shape) above l e (inr (inr z)) = absurd (omega arith)
+no-own-roof (LowerItem lower) above l e v = clash refl e
+no-own-roof (Malformed number) above l e v = refl
 
 module _ (s : List ℕ) where
   pub site-sound : itemNumber s 0 ≡ 0 → siteRefusal (sheetSite s) ≡ 0
   unfolding itemNumber sheetSite
-  site-sound e = site-by (content (part s 0) .item) (content (part s 0) .spans) (numbered (part s 0)) e
+  site-sound e = site-by (itemAt s 0) (content (part s 0) .spans) (numbered (part s 0)) e
 
-  roof-after : (i : ℕ) → itemNumber s (suc i) ≡ 0 → roofRefusal (sheetRoof s (suc i)) ≡ 0
+  -- the upper item of a lower roof of an accepted sheet lies in it and is an accepted roof
+  module _ (i : ℕ) (k : ItemOf s i) where
+    abbrev above : ℕ
+    above = upperIndex (itemAt s i)
+
+    sheet : SheetKept (k .ceiling) s (k .items)
+    sheet = sheet-kept (k .ceiling) s (k .items) (k .verdict)
+
+    stands : isLower (itemAt s i) ≡ true → Above s (k .items) i
+    stands l = stands-above s (k .items) i (sheet .uppers .sound i (k .below)) l
+
+    pub above-in : isLower (itemAt s i) ≡ true → PartIn s above
+    above-in l = parts-in (sheet .pairs) above (stands l .item)
+
+    pub above-upper : isLower (itemAt s i) ≡ true → UpperIn (itemAt s above)
+    unfolding itemNumber
+    above-upper l = upper-by above (itemAt s above) (content (part s above) .spans) (sheet .sound above (stands l .item)) (stands l .upper)
+
+    pub item-of : ItemIn s 0 × ItemIn s i
+    item-of =
+        (item-in (k .ceiling) s (k .items) (k .verdict) 0 (omega (arith, k .below)), item-in (k .ceiling) s (k .items) (k .verdict) i (k .below))
+
+  -- what is asked for its shape
+  pub below-asked :
+      (i : ℕ) (lower : LowerRoof) → ItemOf s i → LowerItem lower ≡ itemAt s i
+      → PartIn s (lower .upper) × AcceptedShape (upperShape (itemAt s (lower .upper)))
+  below-asked i lower k e =
+      let l : isLower (itemAt s i) ≡ true = sym (ap isLower e) in (
+        subst (λ (x : Item). PartIn s (upperIndex x)) (sym e) (above-in i k l),
+        subst (λ (x : Item). AcceptedShape (upperShape (itemAt s (upperIndex x)))) (sym e) (above-upper i k l .shape),
+      )
+
+  roof-after : (i : ℕ) → ItemOf s (suc i) → roofRefusal (sheetRoof s (suc i)) ≡ 0
   unfolding itemNumber sheetRoof
-  roof-after i e = roof-by i (content (part s (suc i)) .item) (content (part s (suc i)) .spans) (numbered (part s (suc i))) e
+  roof-after i k =
+      roof-by i (itemAt s (suc i)) (itemAt s (upperIndex (itemAt s (suc i)))) (content (part s (suc i)) .spans) (numbered (part s (suc i)))
+      (item-of (suc i) k .1 .sound) (above-upper (suc i) k)
 
-  pub roof-sound : (i : ℕ) → 0 < i → itemNumber s i ≡ 0 → roofRefusal (sheetRoof s i) ≡ 0
-  roof-sound zero h e = absurd (omega arith)
-  roof-sound (suc i) h e = roof-after i e
+  pub roof-sound : (i : ℕ) → 0 < i → ItemOf s i → roofRefusal (sheetRoof s i) ≡ 0
+  roof-sound zero h k = absurd (omega arith)
+  roof-sound (suc i) h k = roof-after i k
 
   -- the figures of an item by its bytes
   module _ (p : List ℕ) (d : Decoded) (told : d ≡ content p) where
@@ -57,13 +134,26 @@ module _ (s : List ℕ) where
         let g : r ≡ sheetSite s = rw (f, told, e) in
         (g, rw g (site-sound h))
 
-    pub roof-is :
-        (r : Roof) (i : ℕ) → p ≡ part s i → r ≡ roofBy (d .item) (d .spans) → 0 < i → itemNumber s i ≡ 0
+    pub own-roof-is :
+        (r : Roof) (i : ℕ) → p ≡ part s i → OwnRoof d r → 0 < i → ItemOf s i
         → (r ≡ sheetRoof s i) × (roofRefusal r ≡ 0)
     unfolding sheetRoof
-    roof-is r i e f pos h =
-        let g : r ≡ sheetRoof s i = rw (f, told, e) in
-        (g, rw g (roof-sound i pos h))
+    own-roof-is r i e f pos k =
+        let g : r ≡ sheetRoof s i = f (itemAt s (upperIndex (itemAt s i))) ∙ rw (told, e) in
+        (g, rw g (roof-sound i pos k))
+
+    pub lower-told : (lower : LowerRoof) (i : ℕ) → p ≡ part s i → d .item ≡ LowerItem lower → LowerItem lower ≡ itemAt s i
+    lower-told lower i e l = sym l ∙ rw (told, e)
+
+    pub lower-roof-is :
+        (lower : LowerRoof) (shape : Shape) (i : ℕ) → p ≡ part s i → d .item ≡ LowerItem lower
+        → shape ≡ steppedShape lower (upperShape (itemAt s (lower .upper))) → 0 < i → ItemOf s i
+        → (roofOf shape noSpans ≡ sheetRoof s i) × (roofRefusal (roofOf shape noSpans) ≡ 0)
+    unfolding sheetRoof
+    lower-roof-is lower shape i e l f pos k =
+        let h : itemAt s i ≡ LowerItem lower = sym (lower-told lower i e l) in
+        let g : roofOf shape noSpans ≡ sheetRoof s i = rw (f, h) in
+        (g, subst (λ (r : Roof). roofRefusal r ≡ 0) (sym g) (roof-sound i pos k))
 
   -- what an accepted sheet has at an index
   module _ (i : ℕ) (site : Site) (roof : Roof) (same : site ≡ sheetSite s) where
@@ -93,8 +183,8 @@ accepted-by :
 accepted-by s i (refused number item) q e = let z : _≡_ {A = ℕ} 0 1 = cc in absurd (omega arith)
 accepted-by s zero (accepted p) q e = let z : _≡_ {A = ℕ} 0 1 = cc in absurd (omega arith)
 accepted-by s (suc i) (accepted p) q e =
-    let k = located-in terminals s (suc i) p q in
-    (site-sound s (k .0 .sound), roof-sound s (suc i) (omega arith) (k .1 .sound))
+    let k = located-of terminals s (suc i) p q in
+    (site-sound s (item-of s (suc i) k .0 .sound), roof-sound s (suc i) (omega arith) k)
 
 -- a site and a roof that are found are accepted
 pub found-accepted : (s : List ℕ) (i : ℕ) → found s i .finding ≡ RoofFound → (siteRefusal (found s i .site) ≡ 0) × (roofRefusal (found s i .roof) ≡ 0)

@@ -5,8 +5,8 @@ use mathlib.Core.Path.{_≡_}
 use lib.ListN.{length}
 use Rattle.little_endian.specs.Numbers.{byteAt}
 use Rattle.ceilings.specs.Ceilings.{terminals}
-use Rattle.pairs.specs.Pairs.{accepted, pairsVerdict}
-use Rattle.sheet.specs.Sheet.{part, itemNumber}
+use Rattle.pairs.specs.Pairs.{accepted, pairsVerdict, part}
+use Rattle.sheet.specs.Sheet.{itemNumber}
 use Rattle.sheet_figures.specs.Find.{sheetSite}
 
 -- "the kind 1 site with it": the bytes of the kind 1 item with a ground load below 65,536 and a kind 8 item's fields from Ce on

@@ -1,12 +1,18 @@
 // The one place where a sheet becomes figures: the sheet's site and an item's roof.
+ghost use mathlib.Core.Bool.{false};
 ghost use mathlib.Core.Path.{_≡_};
 ghost use Prim.Native.Nat.{_<_};
 ghost use Rattle.figures.specs.RoofRules.{roofRefusal};
 ghost use Rattle.figures.specs.SiteRules.{siteRefusal};
-ghost use Rattle.item_rules.specs.Figures.{noSite, noRoof, siteBy, roofBy};
+ghost use Rattle.item_rules.specs.Figures.{noSite, noRoof, siteBy};
 ghost use Rattle.item_rules.specs.Rules.{ruleOf};
-ghost use Rattle.sheet.specs.Sheet.{ItemIn};
-ghost use Rattle.sheet_figures.specs.Find.{sheetSite, sheetRoof, foundIn, found};
+ghost use Rattle.figures.specs.Slopes.{AcceptedShape};
+ghost use Rattle.stepped_roofs.specs.Stepped.{upperShape, steppedShape};
+ghost use Rattle.pairs.specs.Pairs.{PartIn};
+ghost use Rattle.upper_items.specs.Uppers.{itemAt, isLower};
+ghost use Rattle.sheet.specs.Sheet.{ItemIn, ItemOf};
+ghost use Rattle.sheet_figures.specs.Find.{sheetSite, sheetRoof, OwnRoof, foundIn, found};
+use figures::LowerRoof;
 use figures::Roof;
 use figures::SPAN_NUMBERS;
 use figures::Shape;
@@ -15,10 +21,12 @@ use items::Decoded;
 use items::Item;
 use items::decode;
 use map_sites::site_from;
+use pairs::part_at;
 use sheet::Caller;
 use sheet::Located;
 use sheet::locate;
-use sheet::part_at;
+use stepped_roofs::stepped_shape;
+use stepped_roofs::upper_shape;
 
 // What there is at an index: a roof, the site's item, which is no roof, or a refusal with its number and the item that it
 // names.
@@ -72,9 +80,10 @@ fn site_of(decoded: Decoded) -> Site
     site_from(fields)
 }
 
-// The roof that an item says.
+// The roof that an item says by itself: any but a lower roof, whatever stands above it.
 fn roof_of(decoded: Decoded) -> Roof
-    ensures { λ r. ⌜ r ≡ roofBy (decoded .item) (decoded .spans) ⌝ }
+    requires { ⌜ isLower (decoded .item) ≡ false ⌝ }
+    ensures { λ r. ⌜ OwnRoof decoded r ⌝ }
 {
     let item = decoded.item;
     let spans = decoded.spans;
@@ -87,6 +96,16 @@ fn roof_of(decoded: Decoded) -> Roof
     }
 }
 
+// The shape of a lower roof by its upper item, where that lies in the sheet and is sound.
+fn shape_below(s: &[u8], lower: LowerRoof) -> Shape
+    requires { ⌜ PartIn (now s) (lower .upper) × AcceptedShape (upperShape (itemAt (now s) (lower .upper))) ⌝ }
+    ensures { λ r. ⌜ r ≡ steppedShape lower (upperShape (itemAt (now (s .entry)) (lower .upper))) ⌝ }
+{
+    let above = decode(part_at(s, lower.upper as usize));
+    let item = above.item;
+    stepped_shape(lower, upper_shape(item))
+}
+
 // The site of a sheet whose first item is sound. For the crates above, which have the verdict.
 pub fn site_in(s: &[u8]) -> Site
     requires { ⌜ ItemIn (now s) 0 ⌝ }
@@ -95,17 +114,25 @@ pub fn site_in(s: &[u8]) -> Site
     site_of(decode(part_at(s, 0)))
 }
 
-// The roof of a later item that is sound. For the crates above, which have the verdict.
+// The roof of a later item of an accepted sheet. For the crates above, which have the verdict.
 pub fn roof_in(s: &[u8], i: usize) -> Roof
-    requires { ⌜ ItemIn (now s) i × (0 < i) ⌝ }
+    requires { ⌜ ItemOf (now s) i × (0 < i) ⌝ }
     ensures { λ r. ⌜ (r ≡ sheetRoof (now (s .entry)) i) × (roofRefusal r ≡ 0) ⌝ }
 {
-    roof_of(decode(part_at(s, i)))
+    let decoded = decode(part_at(s, i));
+    let item = decoded.item;
+    let Item::LowerItem(lower) = item else {
+        return roof_of(decoded);
+    };
+    Roof {
+        shape: shape_below(s, lower),
+        spans: [0; SPAN_NUMBERS],
+    }
 }
 
 // What an accepted sheet has at an index of an item.
 fn found_in(s: &[u8], index: usize) -> Found
-    requires { ⌜ ItemIn (now s) 0 × ItemIn (now s) index ⌝ }
+    requires { ⌜ ItemOf (now s) index ⌝ }
     ensures { λ r. ⌜ r ≡ foundIn (now (s .entry)) index ⌝ }
 {
     let site = site_in(s);

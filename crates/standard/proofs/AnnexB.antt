@@ -30,7 +30,7 @@ abbrev situations : ℕ → ℕ → List (List ℕ)
 situations kind spans =
     codesBelow kind 0 spans 256 ∷ codesBelow kind 1 spans 256 ∷ codesBelow kind 2 spans 256 ∷ codesBelow kind 3 spans 256 ∷ []
 
--- kinds 2 to 9, of which 8 is no roof; kinds 4 and 9 with 3 spans, then kind 9 with 2 and with 16
+-- kinds 2 to 11, of which 8 and 11 are no roof; kinds 4 and 9 with 3 spans, then kind 9 with 2 and with 16
 abbrev codesComputed : List (List (List ℕ))
 codesComputed =
     situations 2 0
@@ -43,6 +43,8 @@ codesComputed =
     ∷ situations 9 3
     ∷ situations 9 2
     ∷ situations 9 16
+    ∷ situations 10 0
+    ∷ situations 11 0
     ∷ []
 
 abbrev fifteen : List ℕ
@@ -60,6 +62,8 @@ codesStated =
     ∷ ((1 ∷ 2 ∷ []) ∷ (1 ∷ 2 ∷ 11 ∷ 12 ∷ []) ∷ (1 ∷ 31 ∷ 32 ∷ []) ∷ (1 ∷ 11 ∷ 31 ∷ 32 ∷ []) ∷ [])
     ∷ ((1 ∷ 2 ∷ []) ∷ (1 ∷ 2 ∷ 11 ∷ 12 ∷ []) ∷ (1 ∷ 31 ∷ []) ∷ (1 ∷ 11 ∷ 31 ∷ []) ∷ [])
     ∷ ((1 ∷ 2 ∷ []) ∷ (1 ∷ 2 ∷ 11 ∷ 12 ∷ []) ∷ (1 ∷ fifteen) ∷ (1 ∷ 11 ∷ fifteen) ∷ [])
+    ∷ ((1 ∷ 2 ∷ []) ∷ (1 ∷ 2 ∷ 11 ∷ 12 ∷ []) ∷ (1 ∷ 2 ∷ []) ∷ (1 ∷ 2 ∷ 11 ∷ []) ∷ [])
+    ∷ ([] ∷ [] ∷ [] ∷ [] ∷ [])
     ∷ []
 
 pub which-codes : codesComputed ≡ codesStated

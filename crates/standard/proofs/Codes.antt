@@ -49,7 +49,7 @@ persistent-codes kind code h =
     either _ _ b
     (λ c. low 1 (omega arith) (omega arith) (both (eqb kind 2) (eqb code 1) c .1))
     (λ c. let p = both (eqb kind 3) (within 1 3 code) c in record { codes = range 1 3 code (p .1); third = λ e. eqb-true kind 3 (p .0) }))
-    (λ b. let r = range 1 2 code (both (within 4 6 kind || eqb kind 9) (within 1 2 code) b .1) in below (r .low) (r .high)))
+    (λ b. let r = range 1 2 code (both (within 4 6 kind || within 9 10 kind) (within 1 2 code) b .1) in below (r .low) (r .high)))
     (λ a. low 2 (omega arith) (omega arith) (both (eqb kind 7) (eqb code 2) a .1))
   where
     below : 1 ≤ code → code ≤ 2 → Persistent kind code

@@ -57,7 +57,7 @@ module _ (national : National) (spans : List ℕ) (factor code : ℕ) where
   formed-in (Pitched left right leftGuard rightGuard) sk hs hn f = pitched-formed factor left right leftGuard rightGuard code sk f
   formed-in (MultiSpan count drifts) sk hs hn f = spans-formed spans factor count code sk f
   formed-in (Cylindrical rise span) sk hs hn f = cylindrical-formed national factor rise span (eqb code 1) sk f
-  formed-in (Abutting b1 b2 h slope guard) sk hs hn f = abutting-formed national factor b1 b2 h slope guard (eqb code 1) sk hs hn f
+  formed-in (Abutting b1 b2 h slope guard stepped) sk hs hn f = abutting-formed national factor b1 b2 h slope guard (eqb code 1) sk hs hn f
   formed-in (Projection h left right) sk hs hn f = projection-formed factor h left right sk hs f
 
   rises-in :
@@ -68,7 +68,7 @@ module _ (national : National) (spans : List ℕ) (factor code : ℕ) where
   rises-in (Pitched left right leftGuard rightGuard) s t i hs p f = pitched-rises factor left right leftGuard rightGuard code s t i p
   rises-in (MultiSpan count drifts) s t i hs p f = spans-rises spans factor count code s t i p f
   rises-in (Cylindrical rise span) s t i hs p f = cylindrical-rises national factor rise span (eqb code 1) s t i p
-  rises-in (Abutting b1 b2 h slope guard) s t i hs p f = abutting-rises national factor b1 b2 h slope guard (eqb code 1) s t i hs p (f .step .low)
+  rises-in (Abutting b1 b2 h slope guard stepped) s t i hs p f = abutting-rises national factor b1 b2 h slope guard (eqb code 1) s t i hs p (f .step .low)
   rises-in (Projection h left right) s t i hs p f = projection-rises factor h left right s t i hs p
 
   level-in : (shape : Shape) (sk i : ℕ) → rampedIn national shape code i ≡ false → Level (stretchIn national shape spans factor sk code i)
@@ -77,7 +77,7 @@ module _ (national : National) (spans : List ℕ) (factor code : ℕ) where
   level-in (Pitched left right leftGuard rightGuard) sk i e = pitched-level factor left right leftGuard rightGuard code sk i
   level-in (MultiSpan count drifts) sk i e = spans-level spans factor count code sk i e
   level-in (Cylindrical rise span) sk i e = cylindrical-level national factor rise span (eqb code 1) sk i e
-  level-in (Abutting b1 b2 h slope guard) sk i e = abutting-level national factor b1 b2 h slope guard (eqb code 1) sk i e
+  level-in (Abutting b1 b2 h slope guard stepped) sk i e = abutting-level national factor b1 b2 h slope guard (eqb code 1) sk i e
   level-in (Projection h left right) sk i e = projection-level factor h left right sk i e
 
 -- no roof is longer than the largest position
@@ -87,7 +87,7 @@ end-most (Monopitch slope guard) spans f = omega (arith, f .slope .width .high)
 end-most (Pitched left right leftGuard rightGuard) spans f = omega (arith, f .left .width .high, f .right .width .high)
 end-most (MultiSpan count drifts) spans f = omega (arith, widths-most spans (2 * count) (f .spans), f .count .high)
 end-most (Cylindrical rise span) spans f = omega (arith, f .span .high)
-end-most (Abutting b1 b2 h slope guard) spans f = omega (arith, f .lower .high)
+end-most (Abutting b1 b2 h slope guard stepped) spans f = omega (arith, f .lower .high)
 end-most (Projection h left right) spans f = omega (arith, f .left .high, f .right .high)
 
 -- a pitched roof has two segments, and a drift in a valley four
@@ -102,7 +102,8 @@ few-segments national (Pitched left right leftGuard rightGuard) code = record { 
 few-segments national (MultiSpan count true) code = record { pitched = λ e. absurd (omega arith); valley = λ e n. rw n (omega arith) }
 few-segments national (MultiSpan count false) code = record { pitched = λ e. absurd (omega arith); valley = λ e n. absurd (omega arith) }
 few-segments national (Cylindrical rise span) code = record { pitched = λ e. absurd (omega arith); valley = λ e n. absurd (omega arith) }
-few-segments national (Abutting b1 b2 h slope guard) code = record { pitched = λ e. absurd (omega arith); valley = λ e n. absurd (omega arith) }
+few-segments national (Abutting b1 b2 h slope guard true) code = record { pitched = λ e. absurd (omega arith); valley = λ e n. absurd (omega arith) }
+few-segments national (Abutting b1 b2 h slope guard false) code = record { pitched = λ e. absurd (omega arith); valley = λ e n. absurd (omega arith) }
 few-segments national (Projection h left right) code = record { pitched = λ e. absurd (omega arith); valley = λ e n. absurd (omega arith) }
 
 module _ (national : National) (spans : List ℕ) (factor sk code i : ℕ) (hf : 0 < factor) (hs : 0 < sk) where
@@ -116,7 +117,7 @@ module _ (national : National) (spans : List ℕ) (factor sk code i : ℕ) (hf :
   apart-in (MultiSpan count true) k c e e' d = drift-apart count code i (not-false _ k) c e e'
   apart-in (MultiSpan count false) k c e e' d = let z : _≡_ {A = ℕ} 0 1 = cc in omega arith
   apart-in (Cylindrical rise span) k c e e' d = cylindrical-apart national factor rise span (eqb code 1) sk i hf hs c e e' d
-  apart-in (Abutting b1 b2 h slope guard) k c e e' d = abutting-apart national b2 h (eqb code 1) i c e
+  apart-in (Abutting b1 b2 h slope guard stepped) k c e e' d = abutting-apart national b2 h (eqb code 1) i c e
   apart-in (Projection h left right) k c e e' d = projection-apart h left right i c e e'
 
 factor-positive : (site : Site) (code : ℕ) → SiteIn site → 0 < factorOf site code
@@ -210,7 +211,7 @@ module _ (national : National) (spans : List ℕ) (sk code i : ℕ) where
   drift-in (Pitched left right leftGuard rightGuard) factor other n = absurd (omega (arith, within-in 31 29 code n))
   drift-in (MultiSpan count drifts) factor other n = drift-alike spans factor count code n sk other i
   drift-in (Cylindrical rise span) factor other n = absurd (omega (arith, within-in 31 29 code n))
-  drift-in (Abutting b1 b2 h slope guard) factor other n = absurd (omega (arith, within-in 31 29 code n))
+  drift-in (Abutting b1 b2 h slope guard stepped) factor other n = absurd (omega (arith, within-in 31 29 code n))
   drift-in (Projection h left right) factor other n = absurd (omega (arith, within-in 31 29 code n))
 
 pub drift-alone :

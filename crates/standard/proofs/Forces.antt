@@ -2,23 +2,23 @@
 use Prim.Native.Nat.{ℕ, _+_, _-_, _*_, _≤_, _<_, min}
 use mathlib.Core.Path.{_≡_, refl, sym, subst, _∙_}
 use mathlib.Core.Bool.{Bool, true, false, cond, _&&_}
-use mathlib.Core.List.{List}
 use borrow.Author.Tests.{eqb-true}
 use lib.Dec.{ltb, eqb}
 use native.Mathlib.Decide.{decLe}
 use native.Mathlib.Nat.{add-sub-of-le, mul-pos, le-of-lt, min-eq-left, min-eq-right}
 use native.Mathlib.Nat.{mul-le-mul, mul-le-mul-left, mul-le-mul-right, mul-lt-mul-of-pos-right, le-of-mul-le-mul-right}
 use native.Mathlib.Omega.{arith}
-use Rattle.figures.specs.Bounds.{SiteIn, SlopeIn, ShapeIn}
+use Rattle.figures.specs.Bounds.{SiteIn}
 use Rattle.figures.specs.Refusals.{figuresRefusal}
-use Rattle.figures.specs.RoofRules.{kindOf, shapeRefusal, roofRefusal}
+use Rattle.figures.specs.RoofRules.{roofRefusal}
 use Rattle.figures.specs.SiteRules.{siteRefusal}
 use Rattle.figures.specs.declared.site.Site.{Site}
 use Rattle.figures.specs.declared.roof.Slope.{Slope}
 use Rattle.figures.specs.declared.roof.Shape.{Shape}
-use Rattle.figures.specs.declared.roof.Shape.the-variants.{Monopitch, Pitched, MultiSpan, Cylindrical, Abutting, Projection}
+use Rattle.figures.specs.declared.roof.Shape.the-variants.{Pitched}
 use Rattle.figures.specs.declared.roof.Roof.{Roof}
-use Rattle.figures.proofs.Accepted.{site-in, shape-in}
+use Rattle.figures.proofs.Accepted.{site-in}
+use Rattle.figures.proofs.Sides.{side-in}
 use Rattle.figures.proofs.Laws.{none-broken}
 use Rattle.rounding.specs.Fraction.{Fraction, over, sum, AtMost, Under, UnderParts, Below, Same, Near}
 use Rattle.rounding.specs.Load.{alone, exact, breakLoad}
@@ -29,9 +29,9 @@ use Rattle.rounding.proofs.Distance.{near-nothing, near-larger}
 use Rattle.rounding.proofs.Ramps.{break-alone}
 use Rattle.rounding.proofs.Limited.{smaller-is, smaller-mono, smaller-positive}
 use Rattle.standard.specs.Arrangements.{factorOf}
-use Rattle.standard.specs.Codes.{forcesIn}
 use Rattle.standard.specs.Coefficients.{mu1, guarded, slopeMu}
-use Rattle.standard.specs.Forces.{SlopeAt, noSlope, someSlope, slopeAt, present, slopeLoad, wholeLoad, force, none, refused}
+use Rattle.figures.specs.Slopes.{SlopeAt, noSlope, someSlope, slopeAt, present}
+use Rattle.standard.specs.Forces.{slopeLoad, wholeLoad, force, none, refused}
 use Rattle.standard.specs.Forces.{unroundedAt, wholeAt, largerUnrounded, largerWhole}
 use Rattle.standard.specs.Forces.{OverhangNear, overhangRule, overhangForce, overhangAt, overhangAnswer, overhangDistance}
 use Rattle.standard.specs.Forces.{GuardNear, guardRule, guardForce, guardAt, guardAnswer, guardDistance}
@@ -43,49 +43,6 @@ use Rattle.standard.proofs.Numerators.{slope-mu-positive, slope-mu-is}
 use Rattle.standard.proofs.Loads.{load-positive}
 use Rattle.standard.proofs.Runs.{even-in}
 use Rattle.standard.proofs.Sine.{sine-nearest, sine-most}
-
--- a slope that an accepted roof has
-pub record SideIn (s : Slope) (g : ℕ) : Type 0 where
-  pub slope : SlopeIn s
-  pub guard : g ≤ 1
-
--- what a slope of an accepted roof keeps, and that its kind is one with local forces
-sides : ℕ → SlopeAt → Type 0
-sides kind noSlope = Unit
-sides kind (someSlope slope guard) = SideIn slope guard × (forcesIn kind ≡ true)
-
-chosen : (kind : ℕ) (a b : SlopeAt) (t : Bool) → sides kind a → sides kind b → sides kind (cond t a b)
-chosen kind a b true p q = p
-chosen kind a b false p q = q
-
-shape-sides : (shape : Shape) (spans : List ℕ) (n : ℕ) → ShapeIn shape spans → sides (kindOf shape) (slopeAt shape n)
-unfolding slopeAt sides
-shape-sides (Monopitch slope guard) spans n f = chosen 2 _ _ (eqb n 1) (record { slope = f .slope; guard = f .guard }, refl) tt
-shape-sides (Pitched left right leftGuard rightGuard) spans n f =
-    chosen 3 (someSlope left leftGuard) (cond (eqb n 2) (someSlope right rightGuard) noSlope) (eqb n 1)
-    (record { slope = f .left; guard = f .left-guard }, refl)
-    (chosen 3 (someSlope right rightGuard) noSlope (eqb n 2) (record { slope = f .right; guard = f .right-guard }, refl) tt)
-shape-sides (MultiSpan count drifts) spans n f = tt
-shape-sides (Cylindrical rise span) spans n f = tt
-shape-sides (Abutting b1 b2 h slope guard) spans n f = tt
-shape-sides (Projection h left right) spans n f = tt
-
--- a kind without local forces has no slope here
-pub no-sides :
-    (shape : Shape) (spans : List ℕ) (n : ℕ) → shapeRefusal shape spans ≡ 0 → forcesIn (kindOf shape) ≡ false → slopeAt shape n ≡ noSlope
-unfolding sides
-no-sides shape spans n h e = go (slopeAt shape n) (shape-sides shape spans n (shape-in shape spans h))
-  where
-    go : (at : SlopeAt) → sides (kindOf shape) at → at ≡ noSlope
-    go noSlope s = refl
-    go (someSlope slope guard) s = let z : _≡_ {A = ℕ} 0 1 = cc (s .1) in absurd (omega arith)
-
-pub side-in :
-    (roof : Roof) (n : ℕ) (slope : Slope) (guard : ℕ) → roofRefusal roof ≡ 0 → slopeAt (roof .shape) n ≡ someSlope slope guard
-    → SideIn slope guard
-unfolding sides
-side-in roof n slope guard hr e =
-    subst (λ (s : SlopeAt). sides (kindOf (roof .shape)) s) e (shape-sides (roof .shape) (roof .spans) n (shape-in (roof .shape) (roof .spans) hr)) .0
 
 -- S is at most 24,000: μ1 at most 0.8, Ce at most 1.2, Ct at most 1, sk at most 25,000
 pub mu-most : (slope : Slope) (guard : ℕ) → guard ≤ 1 → 375 * slopeMu slope guard .num ≤ 300 * slopeMu slope guard .den

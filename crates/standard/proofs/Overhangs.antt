@@ -21,9 +21,11 @@ use Rattle.standard.specs.Arrangements.{factorOf}
 use Rattle.standard.specs.Coefficients.{slopeMu}
 use Rattle.standard.specs.Numerators.{mu1Num, slopeNum}
 use Rattle.standard.specs.Stretch.{load, loadAlone}
-use Rattle.standard.specs.Forces.{SlopeAt, noSlope, someSlope, slopeAt, present, slopeLoad, wholeLoad, wholeAt, largerWhole, force, none}
+use Rattle.figures.specs.Slopes.{SlopeAt, noSlope, someSlope, slopeAt, present}
+use Rattle.standard.specs.Forces.{slopeLoad, wholeLoad, wholeAt, largerWhole, force, none}
 use Rattle.standard.specs.Forces.{overhangForce, overhangAt, overhangAnswer, overhangDistance}
-use Rattle.standard.proofs.Forces.{mu-most, overhang-is, side-in, whole-near, answers-from}
+use Rattle.figures.proofs.Sides.{side-in}
+use Rattle.standard.proofs.Forces.{mu-most, overhang-is, whole-near, answers-from}
 use Rattle.standard.proofs.Loads.{load-positive}
 use Rattle.standard.proofs.Numerators.{slope-mu-positive, slope-mu-is}
 

@@ -25,7 +25,7 @@ site sk = record { sk = sk; ce = 100; ct = 100; cesl = 200; situation = 0; altit
 
 -- a roof below one whose slope has 20.0°
 abbrev lower : ℕ → ℕ → ℕ → ℕ → Roof
-lower b1 b2 h width = roofOf (Abutting b1 b2 h (record { pitch = 200; width = width }) 0) noSpans
+lower b1 b2 h width = roofOf (Abutting b1 b2 h (record { pitch = 200; width = width }) 0 false) noSpans
 
 -- two spans of 40.0°, 20.0°, 10.0° and 35.0°
 abbrev spans : Roof

@@ -37,7 +37,7 @@ countIn national (Monopitch slope guard) code = 1
 countIn national (Pitched left right leftGuard rightGuard) code = 2
 countIn national (MultiSpan count drifts) code = spansCount count code
 countIn national (Cylindrical rise span) code = cylindricalCount rise span (eqb code 1)
-countIn national (Abutting b1 b2 h slope guard) code = abuttingCount national b2 h (eqb code 1)
+countIn national (Abutting b1 b2 h slope guard stepped) code = abuttingCount national b2 h (eqb code 1)
 countIn national (Projection h left right) code = projectionCount h left right
 
 -- the stretch at an index
@@ -47,7 +47,7 @@ stretchIn national (Pitched left right leftGuard rightGuard) spans factor sk cod
     pitched factor sk left right leftGuard rightGuard code i
 stretchIn national (MultiSpan count drifts) spans factor sk code i = spansStretch factor sk spans count code i
 stretchIn national (Cylindrical rise span) spans factor sk code i = cylindrical national factor sk rise span (eqb code 1) i
-stretchIn national (Abutting b1 b2 h slope guard) spans factor sk code i =
+stretchIn national (Abutting b1 b2 h slope guard stepped) spans factor sk code i =
     abutting national factor sk b1 b2 h slope guard (eqb code 1) i
 stretchIn national (Projection h left right) spans factor sk code i = projection factor sk h left right i
 
@@ -57,7 +57,7 @@ rampedIn national (Monopitch slope guard) code i = false
 rampedIn national (Pitched left right leftGuard rightGuard) code i = false
 rampedIn national (MultiSpan count drifts) code i = spansRamped count code i
 rampedIn national (Cylindrical rise span) code i = not (eqb code 1) && within 1 4 (cond (ltb (loadedWidth rise span) span) i (suc i))
-rampedIn national (Abutting b1 b2 h slope guard) code i = not (eqb code 1) && eqb i 0
+rampedIn national (Abutting b1 b2 h slope guard stepped) code i = not (eqb code 1) && eqb i 0
 rampedIn national (Projection h left right) code i = within 1 2 (cond (ltb (projectionLength h) left) i (suc i))
 
 -- the roof's length in quarter millimetres
@@ -66,7 +66,7 @@ endIn (Monopitch slope guard) spans = 4 * slope .width
 endIn (Pitched left right leftGuard rightGuard) spans = 4 * (left .width + right .width)
 endIn (MultiSpan count drifts) spans = 4 * widths spans (2 * count)
 endIn (Cylindrical rise span) spans = 4 * span
-endIn (Abutting b1 b2 h slope guard) spans = 4 * b2
+endIn (Abutting b1 b2 h slope guard stepped) spans = 4 * b2
 endIn (Projection h left right) spans = 4 * (left + right)
 
 -- "An arrangement exists where these rules give its code to the roof in the site's situation" (document 01, words of demand 3)

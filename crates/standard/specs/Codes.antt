@@ -5,12 +5,13 @@ use mathlib.Core.Bool.{Bool, cond, not, _&&_, _||_}
 use lib.Dec.{eqb}
 use Rattle.figures.specs.Ranges.{within}
 
--- "Kind 2 has code 1; kind 3 has 1, 2, 3; kinds 4, 5, 6 have 1, 2; kind 7 has 2"; kind 9 has those of kind 4
+-- "Kind 2 has code 1; kind 3 has 1, 2, 3; kinds 4, 5, 6 have 1, 2; kind 7 has 2"; kind 9 has those of kind 4;
+-- kind 10, document 02, A7: "The codes are those of kind 6"
 abbrev pub persistentBy : ℕ → ℕ → Bool
 persistentBy kind code =
     (eqb kind 2 && eqb code 1)
     || (eqb kind 3 && within 1 3 code)
-    || ((within 4 6 kind || eqb kind 9) && within 1 2 code)
+    || ((within 4 6 kind || within 9 10 kind) && within 1 2 code)
     || (eqb kind 7 && eqb code 2)
 
 -- "Situation 2 is case B2 and 3 is case B3": kind 9 has the drifts of Annex B there in place of its code 2

@@ -1,12 +1,12 @@
 -- Local forces, kinds 2 and 3, persistent, in N/m: the overhang at an eave and the force at a guard.
 use Prim.Native.Nat.{ℕ, _+_, _*_, _<_, max}
-use mathlib.Core.Bool.{Bool, true, false, cond, _&&_}
+use mathlib.Core.Bool.{cond, _&&_}
 use lib.Dec.{ltb, eqb}
 use Rattle.figures.specs.Refusals.{figuresRefusal}
+use Rattle.figures.specs.Slopes.{SlopeAt, noSlope, someSlope, slopeAt, present}
 use Rattle.figures.specs.declared.site.Site.{Site}
 use Rattle.figures.specs.declared.roof.Slope.{Slope}
 use Rattle.figures.specs.declared.roof.Shape.{Shape}
-use Rattle.figures.specs.declared.roof.Shape.the-variants.{Monopitch, Pitched, MultiSpan, Cylindrical, Abutting, Projection}
 use Rattle.figures.specs.declared.roof.Roof.{Roof}
 use Rattle.rounding.specs.Fraction.{Fraction, over, AtMost, Under}
 use Rattle.rounding.specs.Limit.{smaller, larger}
@@ -16,20 +16,6 @@ use Rattle.standard.specs.Arrangements.{factorOf}
 use Rattle.standard.specs.Coefficients.{slopeMu}
 use Rattle.standard.specs.Sine.{sineReference, sineEntry}
 use Rattle.standard.specs.Stretch.{loadAlone}
-
--- the slope of a roof by its number, with its guard: 1 left or only, 2 right; kinds 2 and 3 alone have slopes here
-pub data SlopeAt : Type 0 where
-  noSlope : SlopeAt
-  someSlope : Slope → ℕ → SlopeAt
-
-unfoldable pub slopeAt : Shape → ℕ → SlopeAt
-slopeAt (Monopitch slope guard) n = cond (eqb n 1) (someSlope slope guard) noSlope
-slopeAt (Pitched left right leftGuard rightGuard) n =
-    cond (eqb n 1) (someSlope left leftGuard) (cond (eqb n 2) (someSlope right rightGuard) noSlope)
-slopeAt (MultiSpan count drifts) n = noSlope
-slopeAt (Cylindrical rise span) n = noSlope
-slopeAt (Abutting b1 b2 h slope guard) n = noSlope
-slopeAt (Projection h left right) n = noSlope
 
 -- "S is the slope's code 1 load": its exact load, and the whole number; "S stays whole" where loads are worked in tenths (document 02, A4)
 unfoldable pub slopeLoad : Site → Slope → ℕ → Load
@@ -76,11 +62,6 @@ pub data Force : Type 0 where
   force : ℕ → Force
   none : Force
   refused : ℕ → Force
-
--- whether the roof has the slope
-abbrev pub present : SlopeAt → Bool
-present noSlope = false
-present (someSlope slope guard) = true
 
 -- above 800 m, at a slope that the roof has; "On kind 3 the overhang at either eave now uses the larger of the two slopes' S"
 unfoldable pub overhangAt : Site → Shape → ℕ → Force

@@ -86,7 +86,7 @@ fn shape_of(row: Row) -> Shape {
             rise: row.b,
             span: row.c,
         },
-        6 => Shape::Abutting {
+        6 | 10 => Shape::Abutting {
             b1: row.b,
             b2: row.c,
             h: row.d,
@@ -95,6 +95,7 @@ fn shape_of(row: Row) -> Shape {
                 width: row.e,
             },
             guard: byte(row.g),
+            stepped: kind == 10,
         },
         _ => Shape::Projection {
             h: row.b,
@@ -111,7 +112,7 @@ pub fn fits(kind: u32, before: u32, n: u32) -> bool
 {
     match kind {
         2 | 7 => n == before + 4,
-        3 | 6 => n == before + 7,
+        3 | 6 | 10 => n == before + 7,
         4 => n % 4 == (before + 2) % 4,
         5 => n == before + 3,
         9 => n % 6 == before % 6,

@@ -46,7 +46,7 @@ pitchedRoof = roofOf (Pitched (slopeOfPitch 200 4000) (slopeOfPitch 400 6000) 0 
 
 -- b1 = 10,000, h = 3,000, an upper slope 6,000 wide
 abbrev pub lowerRoof : ℕ → ℕ → Roof
-lowerRoof b2 pitch = roofOf (Abutting 10000 b2 3000 (slopeOfPitch pitch 6000) 0) noSpans
+lowerRoof b2 pitch = roofOf (Abutting 10000 b2 3000 (slopeOfPitch pitch 6000) 0 false) noSpans
 
 abbrev pub made : ℕ → Roof → ℕ → List ℕ
 made sk roof code = arrangement recommendedFigures (siteOf sk) roof code

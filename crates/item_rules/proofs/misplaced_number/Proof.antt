@@ -13,6 +13,9 @@ enum-told c = search needs
 enum-told-2 : tie.Need-enum-told-2
 enum-told-2 c = search needs
 
+enum-told-3 : tie.Need-enum-told-3
+enum-told-3 c = search needs
+
 returns : tie.Need-returns
 returns c = ap misplaced (sym (c .before .item .given .1))
 
@@ -22,6 +25,9 @@ returns-2 c = ap misplaced (sym (c .enum-told .given .1))
 returns-3 : tie.Need-returns-3
 returns-3 c = ap misplaced (sym (c .enum-told2 .given .1))
 
+returns-4 : tie.Need-returns-4
+returns-4 c = ap misplaced (sym (c .enum-told3 .given .1))
+
 pub misplaced-number-spec : {M : Type 1} → statement M
 misplaced-number-spec =
-    tie.close (tie.spec enum-known-item enum-told enum-told-2 returns returns-2 returns-3)
+    tie.close (tie.spec enum-known-item enum-told enum-told-2 enum-told-3 returns returns-2 returns-3 returns-4)

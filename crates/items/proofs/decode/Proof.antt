@@ -49,6 +49,9 @@ projection-item-requires c κs = search needs
 map-site-item-requires : tie.Need-map-site-item-requires
 map-site-item-requires c κs = search needs
 
+lower-item-requires : tie.Need-lower-item-requires
+lower-item-requires c κs = search needs
+
 refused-requires-2 : tie.Need-refused-requires-2
 refused-requires-2 c κs = search needs
 
@@ -81,11 +84,16 @@ unfolding byKind
 returns-10 c = c .map-site-item .ensures ∙ of-kind _ (c .before .before .before .before .before .if1 .left) 8 (c .before .match .keys7)
 
 returns-11 : tie.Need-returns-11
-returns-11 c =
+unfolding byKind
+returns-11 c = c .lower-item .ensures ∙ of-kind _ (c .before .before .before .before .before .if1 .left) 10 (c .before .match .keys8)
+
+returns-12 : tie.Need-returns-12
+returns-12 c =
     let m = c .before .match .rest in
     let nine = c .before .before .if3 .left in
     let four = c .before .before .before .if2 .left in
-    let u = unknown _ _ (m .0 .0 .0 .0 .0 .0 .1) (m .0 .0 .0 .0 .0 .1) (m .0 .0 .0 .0 .1) four (m .0 .0 .0 .1) (m .0 .0 .1) (m .0 .1) (m .1) nine in
+    let k = m .0 .0 .0 in
+    let u = unknown _ _ (k .0 .0 .0 .0 .1) (k .0 .0 .0 .1) (k .0 .0 .1) four (k .0 .1) (k .1) (m .0 .0 .1) (m .0 .1) nine (m .1) in
     c .refused2 .ensures ∙ (u ∙ of-kind _ (c .before .before .before .before .before .if1 .left) _ refl)
 
 pub decode-spec : {M : Type 1} → statement M
@@ -106,6 +114,7 @@ decode-spec =
     abutting-item-requires
     projection-item-requires
     map-site-item-requires
+    lower-item-requires
     refused-requires-2
     returns-4
     returns-5
@@ -114,4 +123,5 @@ decode-spec =
     returns-8
     returns-9
     returns-10
-    returns-11)
+    returns-11
+    returns-12)

@@ -7,8 +7,8 @@ use Rattle.listing.proofs.list_accepted.Tie as tie
 put-header-requires : tie.Need-put-header-requires
 put-header-requires c κs = search needs
 
-list-items-requires : tie.Need-list-items-requires
-list-items-requires c κs = search needs
+list-roofs-requires : tie.Need-list-roofs-requires
+list-roofs-requires c κs = search needs
 
 same-length : tie.Need-same-length
 same-length c = search needs
@@ -17,8 +17,8 @@ returns : tie.Need-returns
 unfolding listingBy
 returns c =
     let l = c .before .before in
-    then (l .before .before .before .before .before .put-header .ensures) (l .list-items .ensures)
+    then (l .before .before .before .before .before .put-header .ensures) (l .list-roofs .ensures)
 
 pub list-accepted-spec : {M : Type 1} → statement M
 list-accepted-spec =
-    tie.close (tie.spec put-header-requires list-items-requires same-length returns)
+    tie.close (tie.spec put-header-requires list-roofs-requires same-length returns)

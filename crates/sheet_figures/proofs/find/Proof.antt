@@ -4,7 +4,7 @@ use Rattle.ceilings.specs.Ceilings.{terminals}
 use Rattle.pairs.specs.Pairs.{accepted}
 use Rattle.sheet.specs.Sheet.{place, locatedMeans}
 use Rattle.sheet_figures.proofs.Sound.{found-placed, found-refused}
-use Rattle.sheet.proofs.Kept.{located-in}
+use Rattle.sheet.proofs.Kept.{located-of}
 use borrow.Author.Needs.{needs}
 use Rattle.sheet_figures.proofs.find.Statement.{statement}
 use Rattle.sheet_figures.proofs.find.Tie as tie
@@ -31,7 +31,7 @@ enum-told : tie.Need-enum-told
 enum-told c = search needs
 
 found-in-requires : tie.Need-found-in-requires
-found-in-requires c κs = located-in _ _ _ _ (placed c)
+found-in-requires c κs = located-of _ _ _ _ (placed c)
 
 returns : tie.Need-returns
 returns c =

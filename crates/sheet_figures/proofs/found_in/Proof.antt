@@ -1,11 +1,11 @@
 use native.Mathlib.Omega.{arith}
-use Rattle.sheet_figures.proofs.Sound.{first-found, later-found}
+use Rattle.sheet_figures.proofs.Sound.{item-of, first-found, later-found}
 use borrow.Author.Needs.{needs}
 use Rattle.sheet_figures.proofs.found_in.Statement.{statement}
 use Rattle.sheet_figures.proofs.found_in.Tie as tie
 
 site-in-requires : tie.Need-site-in-requires
-site-in-requires c κs = search needs
+site-in-requires c κs = item-of _ _ (c .before .pre) .0
 
 no-roof-requires : tie.Need-no-roof-requires
 no-roof-requires c κs = search needs
@@ -16,7 +16,7 @@ returns c =
     first-found _ (b .before .before .args .index) _ _ (b .site-in .ensures .0) (omega arith) (c .no-roof .ensures)
 
 roof-in-requires : tie.Need-roof-in-requires
-roof-in-requires c κs = (c .before .before .before .pre .1, omega arith)
+roof-in-requires c κs = (c .before .before .before .pre, omega arith)
 
 returns-2 : tie.Need-returns-2
 returns-2 c = later-found _ _ _ _ (c .before .before .site-in .ensures .0) (λ z. omega arith) (c .roof-in .ensures .0)

@@ -4,7 +4,7 @@ use Rattle.sheet_figures.proofs.site_in.Statement.{statement}
 use Rattle.sheet_figures.proofs.site_in.Tie as tie
 
 part-at-requires : tie.Need-part-at-requires
-part-at-requires c κs = search needs
+part-at-requires c κs = c .before .pre .part
 
 decode-requires : tie.Need-decode-requires
 decode-requires c κs = search needs

@@ -1,9 +1,9 @@
 use Rattle.figures.proofs.Accepted.{site-in}
 use Rattle.figures.specs.RoofRules.{roofOf}
-use Rattle.slope_loads.specs.Slopes.{slopeMeans}
+use Rattle.roof_slopes.specs.Slopes.{slopeMeans}
 use Rattle.slope_loads.proofs.Slopes.{load-missing, load-found}
-use Rattle.standard.specs.Forces.{someSlope, slopeAt}
-use Rattle.standard.proofs.Forces.{side-in}
+use Rattle.figures.specs.Slopes.{someSlope, slopeAt}
+use Rattle.figures.proofs.Sides.{side-in}
 use mathlib.Core.Path.{_≡_, sym, ap, _∙_}
 use native.Mathlib.Omega.{arith}
 use borrow.Author.Needs.{needs}

@@ -1,5 +1,6 @@
 use mathlib.Core.Path.{sym, subst, _∙_}
-use Rattle.standard.specs.Forces.{Force, slopeAt, largerUnrounded, overhangDistance}
+use Rattle.figures.specs.Slopes.{slopeAt}
+use Rattle.standard.specs.Forces.{Force, largerUnrounded, overhangDistance}
 use Rattle.standard.proofs.Forces.{overhang-answers}
 use Rattle.figures.proofs.Laws.{none-broken}
 use Rattle.local_forces.proofs.Tests.{overhang-refused, overhang-accepted}

@@ -1,6 +1,7 @@
-use Rattle.slope_loads.specs.Slopes.{slopeMeans}
+use Rattle.roof_slopes.specs.Slopes.{slopeMeans}
 use mathlib.Core.Path.{_≡_, sym, ap, _∙_}
-use Rattle.standard.specs.Forces.{someSlope, slopeAt, overhangForce}
+use Rattle.figures.specs.Slopes.{someSlope, slopeAt}
+use Rattle.standard.specs.Forces.{overhangForce}
 use Rattle.local_forces.proofs.Tests.{overhang-missing, overhang-below, overhang-above}
 use native.Mathlib.Omega.{arith}
 use borrow.Author.Needs.{needs}

@@ -1,5 +1,6 @@
 use mathlib.Core.Path.{sym, subst, _∙_}
-use Rattle.standard.specs.Forces.{Force, slopeAt, guardDistance}
+use Rattle.figures.specs.Slopes.{slopeAt}
+use Rattle.standard.specs.Forces.{Force, guardDistance}
 use Rattle.standard.proofs.Forces.{guard-answers}
 use Rattle.figures.proofs.Laws.{none-broken}
 use Rattle.local_forces.proofs.Tests.{guard-refused, guard-accepted}

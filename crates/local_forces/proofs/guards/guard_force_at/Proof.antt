@@ -1,10 +1,11 @@
-use Rattle.slope_loads.specs.Slopes.{slopeMeans}
-use Rattle.standard.proofs.Forces.{SideIn, side-in}
+use Rattle.roof_slopes.specs.Slopes.{slopeMeans}
+use Rattle.figures.proofs.Sides.{SideIn, side-in}
 use Rattle.figures.proofs.Accepted.{site-in}
 use Rattle.figures.specs.RoofRules.{roofOf}
 use mathlib.Core.Path.{_≡_, sym, ap, _∙_}
 use Prim.Native.Nat.{ℕ}
-use Rattle.standard.specs.Forces.{someSlope, slopeAt, guardForce}
+use Rattle.figures.specs.Slopes.{someSlope, slopeAt}
+use Rattle.standard.specs.Forces.{guardForce}
 use Rattle.local_forces.proofs.Tests.{guard-missing, guard-absent, guard-present}
 use native.Mathlib.Omega.{arith}
 use borrow.Author.Needs.{needs}

@@ -3,7 +3,6 @@ use denote.Ref.{now}
 use Prim.Native.Nat.{_≤_, _-_}
 use Rattle.pairs.specs.Pairs.{inTurn}
 use Rattle.sheet.specs.Sheet.{itemNumber}
-use Rattle.sheet.proofs.Kept.{pairs-kept}
 use Rattle.pairs.proofs.Turns.{turn-refused, turn-next, turn-end, turn-start}
 use native.Mathlib.Omega.{arith}
 use borrow.Author.Needs.{needs}
@@ -27,10 +26,7 @@ loop-holds : tie.Need-loop-holds Inv-loop μ-loop
 loop-holds c = (omega arith, turn-start _ _ _)
 
 part-at-requires : tie.Need-part-at-requires Inv-loop μ-loop
-part-at-requires c κs =
-    let a = c .before .before .before in
-    let k = pairs-kept (a .args .ceiling) (now (a .args .s)) (a .args .n) (a .pre) in
-    (omega (arith, k .fit), k .each (c .before .loop .i) (c .loop-test .taken) .within)
+part-at-requires c κs = c .before .before .before .pre _ (c .loop-test .taken)
 
 item-number-requires : tie.Need-item-number-requires Inv-loop μ-loop
 item-number-requires c κs = search needs

@@ -33,7 +33,7 @@ returns : tie.Need-returns
 returns c = place-none _ _ _ _ (said (c .before)) (omega arith)
 
 pair-at-requires : tie.Need-pair-at-requires
-pair-at-requires c κs = omega (arith, here c .pair)
+pair-at-requires c κs = omega (arith, here c .part .pair)
 
 cast-t11 : tie.Need-cast-t11
 cast-t11 c = search needs

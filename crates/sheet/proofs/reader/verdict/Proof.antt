@@ -1,6 +1,11 @@
 use Rattle.sheet.proofs.Kept.{sheet-refused, sheet-items}
-use Rattle.pairs.specs.Pairs.{verdictMeans}
-use mathlib.Core.Path.{sym, ap, _∙_}
+use Rattle.ceilings.specs.Ceilings.{ceilingOf}
+use Rattle.ceilings.proofs.Limits.{below-terminals}
+use Rattle.pairs.specs.Pairs.{accepted, pairsVerdict, verdictMeans}
+use Rattle.pairs.proofs.Kept.{pairs-kept, parts-in}
+use denote.Ref.{now}
+use native.Mathlib.Omega.{arith}
+use mathlib.Core.Path.{_≡_, sym, ap, _∙_}
 use borrow.Author.Needs.{needs}
 use Rattle.sheet.proofs.reader.verdict.Statement.{statement}
 use Rattle.sheet.proofs.reader.verdict.Tie as tie
@@ -17,8 +22,17 @@ enum-known-number c = search needs
 enum-known-n : tie.Need-enum-known-n
 enum-known-n c = search needs
 
-check-items-requires : tie.Need-check-items-requires
-check-items-requires c κs = sym (c .before .before .before .read-pairs .ensures) ∙ ap verdictMeans (c .before .n .given .1)
+-- the pairs are accepted, and few
+read : (c : tie.After-known-told2) → let a = c .before .before .before .before .before .before .args in
+    pairsVerdict (ceilingOf (a .caller)) (now (a .s)) ≡ accepted (c .before .n .given .0 .0)
+read c =
+    let r = c .before .before .before in
+    rw (r .before .ceiling-of .ensures) at (sym (r .read-pairs .ensures) ∙ ap verdictMeans (c .before .n .given .1))
+
+items-verdict-requires : tie.Need-items-verdict-requires
+items-verdict-requires c κs =
+    let k = pairs-kept _ _ _ (read c) in
+    (parts-in k, omega (arith, k .fit .items, below-terminals (c .before .before .before .before .before .before .args .caller) .items))
 
 returns : tie.Need-returns
 returns c =
@@ -27,11 +41,7 @@ returns c =
     rw (r .before .ceiling-of .ensures) at e
 
 returns-2 : tie.Need-returns-2
-returns-2 c =
-    let b = c .before .before in
-    let r = b .before .before in
-    let e = c .check-items .ensures ∙ sheet-items _ _ _ (sym (r .read-pairs .ensures) ∙ ap verdictMeans (b .n .given .1)) in
-    rw (r .before .ceiling-of .ensures) at e
+returns-2 c = c .items-verdict .ensures ∙ sheet-items _ _ _ (read (c .before))
 
 pub verdict-spec : {M : Type 1} → statement M
 verdict-spec =
@@ -41,6 +51,6 @@ verdict-spec =
     read-pairs-requires
     enum-known-number
     enum-known-n
-    check-items-requires
+    items-verdict-requires
     returns
     returns-2)

@@ -1,0 +1,5 @@
+pub mod Figures
+pub mod Following
+pub mod Lists
+pub mod Tests
+pub mod Turns

@@ -1,0 +1,5 @@
+pub mod Figures
+pub mod Listing
+pub mod Searching
+pub mod Turns
+pub mod Writing

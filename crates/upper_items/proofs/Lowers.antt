@@ -1,0 +1,133 @@
+-- Which items are lower roofs, and what the loops over a sheet's items find of them.
+use Prim.Native.Nat.{ℕ, zero, suc, _+_, _-_, _<_}
+use mathlib.Core.Bool.{true, false}
+use mathlib.Core.List.{List, [], _∷_, _++_}
+use mathlib.Core.Logic.{inl, inr, ⊎-elim}
+use mathlib.Core.Path.{_≡_, refl, sym, ap, fun-ext, _∙_}
+use borrow.Author.Tests.{eq-eqb, eqb-true, eqb-false, lt-ltb, le-ltb, ltb-true, ltb-false}
+use lib.Dec.{ltb, eqb}
+use lib.ListN.{length, drop, getD, set, replicate, length-set}
+use lib.Seq.{getD-set-same, getD-set-other}
+use native.Mathlib.Nat.{eq-or-lt-of-le}
+use native.Mathlib.Numerals.{add-one}
+use native.Mathlib.Omega.{arith}
+use types.Run.{OneOf}
+use Rattle.little_endian.specs.Numbers.{byteAt}
+use Rattle.item_forms.specs.Forms.{sized}
+use Rattle.item_forms.specs.declared.Item.{Item}
+use Rattle.item_forms.specs.declared.Item.the-variants.{SiteItem, RoofItem, LowerItem, Malformed}
+use Rattle.item_forms.proofs.Variants.{variant}
+use Rattle.roof_items.specs.RoofItems.{lowerItem}
+use Rattle.items.specs.Items.{byKind, content}
+use Rattle.items.proofs.Numbered.{by-content}
+use Rattle.circles.specs.Following.{upperIn}
+use Rattle.circles.proofs.Tests.{told, clash, or-right}
+use Rattle.order.specs.Order.{order, upTo}
+use Rattle.order.proofs.Listing.{in-turn, upto-length}
+use Rattle.upper_items.specs.Uppers.{itemAt, isLower, upperIndex, upper, steppedIn, roofOrder}
+
+-- a lower roof is told by its kind and its length
+module _ (p : List ℕ) where
+  lower-told : isLower (content p .item) ≡ true → (byteAt p 0 ≡ 10) × (length p ≡ 11)
+  lower-told =
+      by-content (λ (x : Item). isLower x ≡ true → (byteAt p 0 ≡ 10) × (length p ≡ 11)) (λ fields e. clash e refl) (λ shape e. clash e refl)
+      (λ number h e. clash e refl) p (λ lower k l e. (k, l))
+
+  lower-is : length p ≡ 11 → byteAt p 0 ≡ 10 → isLower (content p .item) ≡ true
+  unfolding content byKind lowerItem sized
+  lower-is l k = rw (l, k)
+
+  pub other-length : (length p ≡ 11 → ⊥) → false ≡ isLower (content p .item)
+  other-length h =
+      ⊎-elim (λ (t : isLower (content p .item) ≡ true). absurd (h (lower-told t .1))) (λ (t : isLower (content p .item) ≡ false). sym t)
+      (told (isLower (content p .item)))
+
+  pub by-its-kind : length p ≡ 11 → eqb (byteAt p 0) 10 ≡ isLower (content p .item)
+  by-its-kind l =
+      ⊎-elim (λ (t : isLower (content p .item) ≡ true). eq-eqb (byteAt p 0) 10 (lower-told t .0) ∙ sym t)
+      (λ (t : isLower (content p .item) ≡ false).
+      ⊎-elim (λ (k : eqb (byteAt p 0) 10 ≡ true). clash (lower-is l (eqb-true (byteAt p 0) 10 k)) t)
+      (λ (k : eqb (byteAt p 0) 10 ≡ false). k ∙ sym t) (told (eqb (byteAt p 0) 10)))
+      (told (isLower (content p .item)))
+
+-- any other item has no upper item
+pub no-upper : (x : Item) → isLower x ≡ false → 0 ≡ upperIndex x
+no-upper (SiteItem fields) e = refl
+no-upper (RoofItem shape) e = refl
+no-upper (LowerItem lower) e = clash refl e
+no-upper (Malformed number) e = refl
+
+pub other-variant : (x : Item) → OneOf (0 ∷ 1 ∷ 3 ∷ []) (variant x) → isLower x ≡ false
+other-variant (SiteItem fields) v = refl
+other-variant (RoofItem shape) v = refl
+other-variant (LowerItem lower) (inl e) = absurd (omega arith)
+other-variant (LowerItem lower) (inr (inl e)) = absurd (omega arith)
+other-variant (LowerItem lower) (inr (inr e)) = absurd (omega arith)
+other-variant (Malformed number) v = refl
+
+-- one of the items is a lower roof, or none is
+module _ (s : List ℕ) where
+  pub stepped-at : (n i : ℕ) → i < n → isLower (itemAt s i) ≡ true → true ≡ steppedIn s n
+  unfolding steppedIn
+  stepped-at zero i h e = absurd (omega arith)
+  stepped-at (suc n) i h e =
+      ⊎-elim (λ (w : i ≡ n). sym (or-right (steppedIn s n) (isLower (itemAt s n)) (rw (← w) e)))
+      (λ (w : i < n). rw (← stepped-at n i w e)) (eq-or-lt-of-le {n = i} {m = n} (omega arith))
+
+  pub stepped-next : (i : ℕ) → steppedIn s i ≡ false → isLower (itemAt s i) ≡ false → steppedIn s (i + 1) ≡ false
+  unfolding steppedIn
+  stepped-next i e f = rw (add-one i, steppedIn, e, f)
+
+  pub none-stepped : (n i : ℕ) → steppedIn s n ≡ false → i < n → isLower (itemAt s i) ≡ false
+  none-stepped n i e h =
+      ⊎-elim (λ (t : isLower (itemAt s i) ≡ true). clash (sym (stepped-at n i h t)) e) (λ (t : isLower (itemAt s i) ≡ false). t)
+      (told (isLower (itemAt s i)))
+
+  pub none-above : (n : ℕ) → steppedIn s n ≡ false → (i : ℕ) → i < n → upper s n i ≡ 0
+  unfolding upper
+  none-above n e i h = rw (lt-ltb i n h) (sym (no-upper (itemAt s i) (none-stepped n i e h)))
+
+zeros : (m i : ℕ) → _≡_ {A = ℕ} (getD (replicate m 0) i 0) 0
+zeros zero i = refl
+zeros (suc m) zero = refl
+zeros (suc m) (suc i) = zeros m i
+
+-- the upper items of the first i items are in the table
+pub record Filled (s : List ℕ) (i : ℕ) (table : List ℕ) : Type 0 where
+  pub size : length table ≡ 32
+  pub entries : upperIn table ≡ upper s i
+
+pub filled-none : (s : List ℕ) → Filled s 0 (replicate 32 0)
+unfolding upper
+filled-none s = record { size = refl; entries = fun-ext (λ i. rw (le-ltb i 0 (omega arith)) (zeros 32 i)) }
+
+pub filled-turn : {s : List ℕ} {i : ℕ} {table : List ℕ} {x : ℕ} → Filled s i table → i < 32 → x ≡ upperIndex (itemAt s i) → Filled s (i + 1) (set table i x)
+unfolding upper
+filled-turn {s} {i} {table} {x} w h e = record { size = length-set table i x ∙ w .size; entries = fun-ext at }
+  where
+    before : (j : ℕ) → (j ≡ i → ⊥) → upper s i j ≡ upper s (i + 1) j
+    before j z =
+        ⊎-elim (λ (t : ltb j i ≡ true). rw (t, lt-ltb j (i + 1) (omega (arith, ltb-true j i t))))
+        (λ (t : ltb j i ≡ false). rw (t, le-ltb j (i + 1) (omega (arith, ltb-false j i t, z)))) (told (ltb j i))
+
+    at : (j : ℕ) → upperIn (set table i x) j ≡ upper s (i + 1) j
+    at j =
+        ⊎-elim (λ (t : eqb i j ≡ true).
+        rw (← eqb-true i j t, getD-set-same table i x 0 (omega (arith, w .size)), lt-ltb i (i + 1) (omega arith)) e)
+        (λ (t : eqb i j ≡ false).
+        let z : (j ≡ i → ⊥) = λ y. eqb-false i j t (sym y) in
+        getD-set-other table i j x 0 z ∙ (ap (λ (f : ℕ → ℕ). f j) (w .entries) ∙ before j z))
+        (told (eqb i j))
+
+-- the order, as it is written into a table of zeros
+module _ (s : List ℕ) (n : ℕ) (out : List ℕ) where
+  pub order-written :
+      (table : List ℕ) (r : ℕ) → upperIn table ≡ upper s n → r ≡ length (order (upperIn table) n) → out ≡ order (upperIn table) n ++ drop r (replicate 32 0)
+      → out ≡ roofOrder s n ++ drop (length (roofOrder s n)) (replicate 32 0)
+  order-written table r e f g = g ∙ rw (f, e)
+
+  -- without a lower roof it is that of the indexes
+  pub index-written :
+      steppedIn s n ≡ false → out ≡ upTo (n - 1) ++ drop (n - 1) (replicate 32 0)
+      → out ≡ roofOrder s n ++ drop (length (roofOrder s n)) (replicate 32 0)
+  index-written e g = g ∙ rw (in-turn (upper s n) n (none-above s n e), upto-length (n - 1))

@@ -1,0 +1,3 @@
+pub mod Figures
+pub mod Kept
+pub mod Passed
