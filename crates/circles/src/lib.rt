@@ -16,13 +16,17 @@ pub fn upper_of(upper: &[u8], i: usize) -> usize
     if i < upper.len() { wide(upper[i]) } else { 0 }
 }
 
-// Whether following upper items from item i, one of n, comes back to it.
+// Whether following upper items from roof i, one of n items, comes back to it. It ends at the site, which has none above it.
 pub fn comes_back(upper: &[u8], n: usize, i: usize) -> bool
+    requires { ⌜ (0 < i) × (upperIn (now upper) 0 ≡ 0) ⌝ }
     ensures { λ r. ⌜ r ≡ comesBack (upperIn (now (upper .entry))) n i ⌝ }
 {
     let mut j = upper_of(upper, i);
     let mut k = 0;
     while k < n {
+        if j == 0 {
+            return false;
+        }
         if j == i {
             return true;
         }

@@ -10,7 +10,9 @@ use lib.ListN.{length}
 use native.Mathlib.Nat.{eq-zero-or-pos}
 use native.Mathlib.Omega.{arith}
 use Rattle.items.specs.Items.{content}
-use Rattle.item_rules.specs.Rules.{ruleOf}
+use Rattle.item_forms.specs.declared.Item.{Item}
+use Rattle.item_forms.specs.declared.Item.the-variants.{SiteItem, RoofItem, LowerItem, Malformed}
+use Rattle.item_rules.specs.Rules.{ruleNumber, ruleOf}
 use Rattle.ceilings.specs.declared.Ceiling.{Ceiling}
 use Rattle.pairs.specs.Pairs.{Answer, accepted, refused, count, offset, size, inTurn, pairsVerdict, andThen, part, verdictMeans, verdictCount}
 use Rattle.pairs.specs.declared.Verdict.{Verdict}
@@ -18,7 +20,7 @@ use Rattle.pairs.specs.declared.Verdict.the-variants.{Accepted, Refused}
 use Rattle.pairs.proofs.Kept.{PairsKept, pairs-kept, parts-in, not-refused, passed, both-accepted, one-refused, named-in, pair-named}
 use Rattle.order.specs.Order.{Ordered, upTo}
 use Rattle.order.proofs.Listing.{in-turn}
-use Rattle.upper_items.specs.Uppers.{upper, steppedIn, roofOrder}
+use Rattle.upper_items.specs.Uppers.{itemAt, isLower, upper, steppedIn, roofOrder}
 use Rattle.upper_items.proofs.Lowers.{none-above}
 use Rattle.upper_rules.specs.UpperRules.{uppersVerdict}
 use Rattle.upper_rules.proofs.Kept.{UppersKept, uppers-kept, upper-named, roofs-ordered}
@@ -117,6 +119,18 @@ module _ (s : List ℕ) (n : ℕ) where
   pub items-refused :
       (k i : ℕ) → inTurn (itemNumber s) n 0 n ≡ refused k i → refused k i ≡ andThen (inTurn (itemNumber s) n 0 n) (uppersVerdict s n)
   items-refused k i e = rw e
+
+  -- the first item is no lower roof where it breaks no rule
+  pub first-site : (m : ℕ) → 1 ≤ n → inTurn (itemNumber s) n 0 n ≡ accepted m → isLower (itemAt s 0) ≡ false
+  unfolding itemNumber
+  first-site m h e =
+      by-item (itemAt s 0) (content (part s 0) .spans) (passed (itemNumber s) n 0 n m e .1 0 (omega arith) (omega arith))
+    where
+      by-item : (x : Item) (l : List ℕ) → ruleNumber 0 x l ≡ 0 → isLower x ≡ false
+      by-item (SiteItem fields) l z = refl
+      by-item (RoofItem shape) l z = refl
+      by-item (LowerItem lower) l z = absurd (omega arith)
+      by-item (Malformed number) l z = refl
 
   pub items-passed : (m : ℕ) → inTurn (itemNumber s) n 0 n ≡ accepted m → uppersVerdict s n ≡ andThen (inTurn (itemNumber s) n 0 n) (uppersVerdict s n)
   items-passed m e = rw e

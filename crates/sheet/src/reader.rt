@@ -41,7 +41,7 @@ fn check_items(s: &[u8], n: usize) -> Verdict
 
 // The n items in turn, then the rules on their upper items.
 fn items_verdict(s: &[u8], n: usize) -> Verdict
-    requires { ⌜ PartsIn (now s) n × (n ≤ 32) ⌝ }
+    requires { ⌜ PartsIn (now s) n × (1 ≤ n) × (n ≤ 32) ⌝ }
     ensures { λ r. ⌜ verdictMeans r ≡ andThen (inTurn (itemNumber (now (s .entry))) n 0 n) (uppersVerdict (now (s .entry)) n) ⌝ }
 {
     match check_items(s, n) {

@@ -134,26 +134,22 @@ module _ (s : List ℕ) where
         let g : r ≡ sheetSite s = rw (f, told, e) in
         (g, rw g (site-sound h))
 
-    pub own-roof-is :
-        (r : Roof) (i : ℕ) → p ≡ part s i → OwnRoof d r → 0 < i → ItemOf s i
-        → (r ≡ sheetRoof s i) × (roofRefusal r ≡ 0)
+    pub own-roof-is : (r : Roof) (i : ℕ) → p ≡ part s i → OwnRoof d r → r ≡ sheetRoof s i
     unfolding sheetRoof
-    own-roof-is r i e f pos k =
-        let g : r ≡ sheetRoof s i = f (itemAt s (upperIndex (itemAt s i))) ∙ rw (told, e) in
-        (g, rw g (roof-sound i pos k))
+    own-roof-is r i e f = f (itemAt s (upperIndex (itemAt s i))) ∙ rw (told, e)
 
-    pub lower-told : (lower : LowerRoof) (i : ℕ) → p ≡ part s i → d .item ≡ LowerItem lower → LowerItem lower ≡ itemAt s i
-    lower-told lower i e l = sym l ∙ rw (told, e)
+    pub item-told : (i : ℕ) → p ≡ part s i → d .item ≡ itemAt s i
+    item-told i e = rw (told, e)
 
     pub lower-roof-is :
         (lower : LowerRoof) (shape : Shape) (i : ℕ) → p ≡ part s i → d .item ≡ LowerItem lower
-        → shape ≡ steppedShape lower (upperShape (itemAt s (lower .upper))) → 0 < i → ItemOf s i
-        → (roofOf shape noSpans ≡ sheetRoof s i) × (roofRefusal (roofOf shape noSpans) ≡ 0)
+        → shape ≡ steppedShape lower (upperShape (itemAt s (lower .upper))) → roofOf shape noSpans ≡ sheetRoof s i
     unfolding sheetRoof
-    lower-roof-is lower shape i e l f pos k =
-        let h : itemAt s i ≡ LowerItem lower = sym (lower-told lower i e l) in
-        let g : roofOf shape noSpans ≡ sheetRoof s i = rw (f, h) in
-        (g, subst (λ (r : Roof). roofRefusal r ≡ 0) (sym g) (roof-sound i pos k))
+    lower-roof-is lower shape i e l f = let h : itemAt s i ≡ LowerItem lower = sym (item-told i e) ∙ l in rw (f, h)
+
+  -- a roof that is found is accepted
+  pub sound-roof : (r : Roof) (i : ℕ) → 0 < i → ItemOf s i → r ≡ sheetRoof s i → (r ≡ sheetRoof s i) × (roofRefusal r ≡ 0)
+  sound-roof r i pos k g = (g, rw g (roof-sound i pos k))
 
   -- what an accepted sheet has at an index
   module _ (i : ℕ) (site : Site) (roof : Roof) (same : site ≡ sheetSite s) where

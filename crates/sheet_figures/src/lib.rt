@@ -1,5 +1,5 @@
 // The one place where a sheet becomes figures: the sheet's site and an item's roof.
-ghost use mathlib.Core.Bool.{false};
+ghost use mathlib.Core.Bool.{true, false};
 ghost use mathlib.Core.Path.{_≡_};
 ghost use Prim.Native.Nat.{_<_};
 ghost use Rattle.figures.specs.RoofRules.{roofRefusal};
@@ -27,6 +27,7 @@ use sheet::Located;
 use sheet::locate;
 use stepped_roofs::stepped_shape;
 use stepped_roofs::upper_shape;
+use upper_items::is_lower;
 
 // What there is at an index: a roof, the site's item, which is no roof, or a refusal with its number and the item that it
 // names.
@@ -114,20 +115,32 @@ pub fn site_in(s: &[u8]) -> Site
     site_of(decode(part_at(s, 0)))
 }
 
-// The roof of a later item of an accepted sheet. For the crates above, which have the verdict.
-pub fn roof_in(s: &[u8], i: usize) -> Roof
-    requires { ⌜ ItemOf (now s) i × (0 < i) ⌝ }
-    ensures { λ r. ⌜ (r ≡ sheetRoof (now (s .entry)) i) × (roofRefusal r ≡ 0) ⌝ }
+// The roof of a lower roof's item of an accepted sheet.
+fn lower_roof(s: &[u8], i: usize) -> Roof
+    requires { ⌜ ItemOf (now s) i × (isLower (itemAt (now s) i) ≡ true) ⌝ }
+    ensures { λ r. ⌜ r ≡ sheetRoof (now (s .entry)) i ⌝ }
 {
     let decoded = decode(part_at(s, i));
     let item = decoded.item;
     let Item::LowerItem(lower) = item else {
-        return roof_of(decoded);
+        return no_roof();
     };
     Roof {
         shape: shape_below(s, lower),
         spans: [0; SPAN_NUMBERS],
     }
+}
+
+// The roof of a later item of an accepted sheet. For the crates above, which have the verdict.
+pub fn roof_in(s: &[u8], i: usize) -> Roof
+    requires { ⌜ ItemOf (now s) i × (0 < i) ⌝ }
+    ensures { λ r. ⌜ (r ≡ sheetRoof (now (s .entry)) i) × (roofRefusal r ≡ 0) ⌝ }
+{
+    let p = part_at(s, i);
+    if is_lower(p) {
+        return lower_roof(s, i);
+    }
+    roof_of(decode(p))
 }
 
 // What an accepted sheet has at an index of an item.

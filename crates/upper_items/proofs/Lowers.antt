@@ -37,6 +37,13 @@ module _ (p : List ℕ) where
   unfolding content byKind lowerItem sized
   lower-is l k = rw (l, k)
 
+  pub upper-byte : isLower (content p .item) ≡ true → byteAt p 9 ≡ upperIndex (content p .item)
+  unfolding content byKind lowerItem sized
+  upper-byte e = rw (lower-told e .1, lower-told e .0)
+
+  pub lower-length : isLower (content p .item) ≡ true → length p ≡ 11
+  lower-length e = lower-told e .1
+
   pub other-length : (length p ≡ 11 → ⊥) → false ≡ isLower (content p .item)
   other-length h =
       ⊎-elim (λ (t : isLower (content p .item) ≡ true). absurd (h (lower-told t .1))) (λ (t : isLower (content p .item) ≡ false). sym t)

@@ -7,8 +7,6 @@ ghost use Rattle.circles.specs.Following.{upperIn};
 ghost use Rattle.items.specs.Items.{content};
 ghost use Rattle.pairs.specs.Pairs.{PartsIn};
 ghost use Rattle.upper_items.specs.Uppers.{isLower, upperIndex, upper, steppedIn, roofOrder};
-use items::Item;
-use items::decode;
 use order::list_by_index;
 use order::list_order;
 use pairs::part_at;
@@ -16,12 +14,16 @@ use pairs::part_at;
 // The most items that a sheet has.
 pub const ITEMS: usize = 32;
 
-// The kind of a lower roof, by document 02's number, and the length of its item.
+// The kind of a lower roof, by document 02's number, and the length of its item. That these three agree with what the item says
+// is proved: no item is decoded here.
 const LOWER_KIND: u8 = 10;
 
 const LOWER_LENGTH: usize = 11;
 
-// Whether an item's bytes are a lower roof's. It is told by the kind and the length, so that no other item is decoded.
+// Where the index of its upper item stands.
+const UPPER_BYTE: usize = 9;
+
+// Whether an item's bytes are a lower roof's.
 pub fn is_lower(p: &[u8]) -> bool
     ensures { λ r. ⌜ r ≡ isLower (content (now (p .entry)) .item) ⌝ }
 {
@@ -35,15 +37,7 @@ pub fn is_lower(p: &[u8]) -> bool
 pub fn upper_index(p: &[u8]) -> u8
     ensures { λ r. ⌜ r ≡ upperIndex (content (now (p .entry)) .item) ⌝ }
 {
-    if !is_lower(p) {
-        return 0;
-    }
-    let decoded = decode(p);
-    let item = decoded.item;
-    let Item::LowerItem(lower) = item else {
-        return 0;
-    };
-    lower.upper
+    if is_lower(p) { p[UPPER_BYTE] } else { 0 }
 }
 
 // Whether one of the n items is a lower roof.

@@ -1,16 +1,18 @@
 -- The rules on upper items, as the code finds them; a sheet without lower roofs breaks none of them.
 use Prim.Native.Nat.{ℕ, zero, suc, _+_, _-_, _≤_, _<_}
-use mathlib.Core.Bool.{Bool, true, false}
+use mathlib.Core.Bool.{Bool, true, false, cond}
 use mathlib.Core.List.{List}
-use mathlib.Core.Path.{_≡_, refl, sym}
-use borrow.Author.Tests.{ne-eqb, lt-ltb, le-ltb}
+use mathlib.Core.Path.{_≡_, refl, sym, ap, _∙_}
+use borrow.Author.Tests.{lt-ltb, le-ltb}
+use lib.Dec.{ltb}
 use native.Mathlib.Omega.{arith}
 use Rattle.figures.specs.Rules.{refusedIf}
 use Rattle.stepped_roofs.specs.Stepped.{isUpper}
 use Rattle.pairs.specs.Pairs.{accepted, refused, inTurn}
-use Rattle.circles.specs.Following.{upperIn, meets, comesBack}
+use Rattle.circles.specs.Following.{upperIn, comesBack}
+use Rattle.circles.proofs.Turns.{none-met}
 use Rattle.upper_items.specs.Uppers.{itemAt, isLower, upperIndex, upper, steppedIn}
-use Rattle.upper_items.proofs.Lowers.{none-stepped, none-above}
+use Rattle.upper_items.proofs.Lowers.{no-upper, none-stepped, none-above}
 use Rattle.upper_rules.specs.UpperRules.{mayStandAbove, upperNumber, circleNumber, uppersVerdict}
 
 module _ (s : List ℕ) (n i : ℕ) where
@@ -39,12 +41,6 @@ unfolding inTurn
 walked number m i zero h = refl
 walked number m i (suc k) h = rw (h i (omega arith) (omega arith)) (walked number m (suc i) k (λ j a b. h j (omega arith) (omega arith)))
 
--- from the site's index, which has no upper item, following meets no roof
-none-met : (up : ℕ → ℕ) (i k : ℕ) → up 0 ≡ 0 → 0 < i → meets up i 0 k ≡ false
-unfolding meets
-none-met up i zero e h = refl
-none-met up i (suc k) e h = rw (ne-eqb 0 i (λ z. omega arith), e) (none-met up i k e h)
-
 module _ (s : List ℕ) (n : ℕ) where
   straight : steppedIn s n ≡ false → (i : ℕ) → 0 < i → i < n → circleNumber s n i ≡ 0
   unfolding circleNumber comesBack
@@ -57,6 +53,15 @@ module _ (s : List ℕ) (n : ℕ) where
         walked (upperNumber s n) n 0 n (λ j a b. sym (not-lower s n j (none-stepped s n j e (omega arith)))),
         walked (circleNumber s n) n 1 (n - 1) (λ j a b. straight e j a (omega arith)),
       )
+
+  -- the first item, which is no lower roof, has none above it in the table either
+  pub site-alone : (table : List ℕ) → upperIn table ≡ upper s n → isLower (itemAt s 0) ≡ false → upperIn table 0 ≡ 0
+  unfolding upper
+  site-alone table e f = ap (λ (up : ℕ → ℕ). up 0) e ∙ by-test (ltb 0 n)
+    where
+      by-test : (b : Bool) → cond b (upperIndex (itemAt s 0)) 0 ≡ 0
+      by-test true = sym (no-upper (itemAt s 0) f)
+      by-test false = refl
 
   pub uppers-refused : (k i : ℕ) → inTurn (upperNumber s n) n 0 n ≡ refused k i → refused k i ≡ uppersVerdict s n
   unfolding uppersVerdict

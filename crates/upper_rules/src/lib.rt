@@ -1,9 +1,11 @@
 // The rules on upper items, refusals 16 and 17, over all items of a sheet.
+ghost use mathlib.Core.Bool.{false};
 ghost use mathlib.Core.Path.{_≡_};
 ghost use Prim.Native.Nat.{_-_, _≤_, _<_};
 ghost use Rattle.circles.specs.Following.{upperIn, comesBack};
 ghost use Rattle.figures.specs.Rules.{refusedIf};
 ghost use Rattle.pairs.specs.Pairs.{inTurn, PartsIn, verdictMeans};
+ghost use Rattle.upper_items.specs.Uppers.{itemAt, isLower};
 ghost use Rattle.upper_rules.specs.UpperRules.{mayStandAbove, upperNumber, uppersVerdict};
 use circles::comes_back;
 use items::decode;
@@ -66,6 +68,7 @@ fn check_uppers(s: &[u8], n: usize) -> Verdict
 
 // 17 over the roofs of n items, by a table of their upper items.
 fn check_circles(upper: &[u8], n: usize) -> Verdict
+    requires { ⌜ upperIn (now upper) 0 ≡ 0 ⌝ }
     ensures { λ r. ⌜ verdictMeans r ≡ inTurn (λ i. refusedIf (comesBack (upperIn (now (upper .entry))) n i) 17) n 1 (n - 1) ⌝ }
 {
     let mut i = 1;
@@ -78,9 +81,10 @@ fn check_circles(upper: &[u8], n: usize) -> Verdict
     Verdict::Accepted(n)
 }
 
-// The verdict on the upper items of n items that lie in the sheet. Most sheets have no lower roof, and are done at once.
+// The verdict on the upper items of n items that lie in the sheet, the first of them no lower roof. Most sheets have no lower
+// roof at all, and are done at once.
 pub fn uppers_verdict(s: &[u8], n: usize) -> Verdict
-    requires { ⌜ PartsIn (now s) n × (n ≤ 32) ⌝ }
+    requires { ⌜ PartsIn (now s) n × (n ≤ 32) × (isLower (itemAt (now s) 0) ≡ false) ⌝ }
     ensures { λ r. ⌜ verdictMeans r ≡ uppersVerdict (now (s .entry)) n ⌝ }
 {
     if !has_lower(s, n) {

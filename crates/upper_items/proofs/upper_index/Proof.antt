@@ -1,38 +1,29 @@
-use mathlib.Core.Path.{sym, ap, _∙_}
-use borrow.Author.Tests.{not-true}
+use mathlib.Core.Bool.{true}
+use mathlib.Core.Path.{_≡_, sym, _∙_}
 use denote.Ref.{now}
 use Rattle.items.specs.Items.{content}
-use Rattle.item_forms.specs.declared.Decoded.{Decoded}
-use Rattle.upper_items.specs.Uppers.{isLower, upperIndex}
-use Rattle.upper_items.proofs.Lowers.{no-upper, other-variant}
+use Rattle.upper_items.specs.Uppers.{isLower}
+use Rattle.upper_items.proofs.Lowers.{lower-length, upper-byte, no-upper}
 use borrow.Author.Needs.{needs}
+use native.Mathlib.Omega.{arith}
 use Rattle.upper_items.proofs.upper_index.Statement.{statement}
 use Rattle.upper_items.proofs.upper_index.Tie as tie
+
+lower : (c : tie.After-shared-slice-known2) → isLower (content (now (c .before .before .before .before .args .p)) .item) ≡ true
+lower c = sym (c .before .before .is-lower .ensures) ∙ c .before .if1 .taken
 
 is-lower-requires : tie.Need-is-lower-requires
 is-lower-requires c κs = search needs
 
+shared-slice-read-result : tie.Need-shared-slice-read-result
+shared-slice-read-result c = omega (arith, lower-length _ (lower c))
+
 returns : tie.Need-returns
-returns c = no-upper (content (now (c .before .before .before .args .p)) .item) (sym (c .before .is-lower .ensures) ∙ not-true _ (c .if1 .taken))
-
-decode-requires : tie.Need-decode-requires
-decode-requires c κs = search needs
-
-enum-known-item : tie.Need-enum-known-item
-enum-known-item c = search needs
+returns c = upper-byte _ (lower c)
 
 returns-2 : tie.Need-returns-2
-returns-2 c =
-    let d = c .before .decode in
-    let e = ap (λ (x : Decoded). isLower (x .item)) (sym (d .ensures)) in
-    no-upper (content (now (c .before .before .before .before .before .args .p)) .item) (e ∙ other-variant (d .result .item) (c .match .keys2))
-
-returns-3 : tie.Need-returns-3
-returns-3 c =
-    let i = c .before in
-    ap upperIndex (sym (i .item .given .1)) ∙ ap (λ (x : Decoded). upperIndex (x .item)) (i .before .before .decode .ensures)
+returns-2 c = no-upper (content (now (c .before .before .before .args .p)) .item) (sym (c .before .is-lower .ensures) ∙ c .if1 .left)
 
 pub upper-index-spec : {M : Type 1} → statement M
 upper-index-spec =
-    tie.close
-    (tie.spec is-lower-requires returns decode-requires enum-known-item returns-2 returns-3)
+    tie.close (tie.spec is-lower-requires shared-slice-read-result returns returns-2)

@@ -1,7 +1,7 @@
 use mathlib.Core.Path.{sym, ap, _∙_}
 use borrow.Author.Tests.{not-true}
 use Rattle.pairs.specs.Pairs.{verdictMeans}
-use Rattle.upper_rules.proofs.Passed.{none-lower, uppers-refused, uppers-circles}
+use Rattle.upper_rules.proofs.Passed.{none-lower, site-alone, uppers-refused, uppers-circles}
 use borrow.Author.Needs.{needs}
 use Rattle.upper_rules.proofs.uppers_verdict.Statement.{statement}
 use Rattle.upper_rules.proofs.uppers_verdict.Tie as tie
@@ -28,7 +28,9 @@ slice-aggregate-check-circles : tie.Need-slice-aggregate-check-circles
 slice-aggregate-check-circles c = search needs
 
 check-circles-requires : tie.Need-check-circles-requires
-check-circles-requires c κs = search needs
+check-circles-requires c κs =
+    let u = c .before in
+    site-alone _ _ (u .uppers .result) (u .uppers .ensures) (u .before .before .before .before .before .before .before .pre .2)
 
 returns-2 : tie.Need-returns-2
 returns-2 c = uppers-refused _ _ _ _ (sym (c .before .before .before .check-uppers .ensures) ∙ ap verdictMeans (c .before .number .given .1))

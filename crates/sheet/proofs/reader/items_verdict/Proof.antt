@@ -1,6 +1,6 @@
 use mathlib.Core.Path.{sym, ap, _∙_}
 use Rattle.pairs.specs.Pairs.{verdictMeans}
-use Rattle.sheet.proofs.Kept.{items-refused, items-passed}
+use Rattle.sheet.proofs.Kept.{first-site, items-refused, items-passed}
 use borrow.Author.Needs.{needs}
 use Rattle.sheet.proofs.reader.items_verdict.Statement.{statement}
 use Rattle.sheet.proofs.reader.items_verdict.Tie as tie
@@ -15,7 +15,10 @@ enum-told : tie.Need-enum-told
 enum-told c = search needs
 
 uppers-verdict-requires : tie.Need-uppers-verdict-requires
-uppers-verdict-requires c κs = search needs
+uppers-verdict-requires c κs =
+    let k = c .before .before in
+    let s = k .before .before in
+    (s .pre .0, s .pre .2, first-site _ _ _ (s .pre .1) (sym (k .check-items .ensures) ∙ ap verdictMeans (c .enum-told .given .1)))
 
 returns : tie.Need-returns
 returns c = items-refused _ _ _ _ (sym (c .before .before .before .check-items .ensures) ∙ ap verdictMeans (c .before .number .given .1))

@@ -32,7 +32,7 @@ read c =
 items-verdict-requires : tie.Need-items-verdict-requires
 items-verdict-requires c κs =
     let k = pairs-kept _ _ _ (read c) in
-    (parts-in k, omega (arith, k .fit .items, below-terminals (c .before .before .before .before .before .before .args .caller) .items))
+    (parts-in k, k .fit .some, omega (arith, k .fit .items, below-terminals (c .before .before .before .before .before .before .args .caller) .items))
 
 returns : tie.Need-returns
 returns c =
