@@ -2,6 +2,7 @@
 use Prim.Native.Nat.{ℕ}
 use mathlib.Core.Bool.{false}
 use mathlib.Core.List.{List}
+use Rattle.figures.specs.declared.roof.LowerRoof.{LowerRoof}
 use Rattle.figures.specs.declared.roof.Shape.the-variants.{Monopitch, Pitched, Cylindrical, Abutting, Projection}
 use Rattle.little_endian.specs.Numbers.{byteAt, le32}
 use Rattle.item_forms.specs.Forms.{itemAlone, sized, slopeAt}
@@ -29,5 +30,8 @@ unfoldable pub projectionItem : List ℕ → Decoded
 projectionItem p = sized 13 p (itemAlone (RoofItem (Projection (le32 p 1) (le32 p 5) (le32 p 9))))
 
 -- "Item kind 10, 11 bytes: b2 and h (32 each), the index of the upper item (8), its adjacent side (8: 0 left, 1 right)"
+abbrev pub lowerAt : List ℕ → LowerRoof
+lowerAt p = record { b2 = le32 p 1; h = le32 p 5; upper = byteAt p 9; side = byteAt p 10 }
+
 unfoldable pub lowerItem : List ℕ → Decoded
-lowerItem p = sized 11 p (itemAlone (LowerItem (record { b2 = le32 p 1; h = le32 p 5; upper = byteAt p 9; side = byteAt p 10 })))
+lowerItem p = sized 11 p (itemAlone (LowerItem (lowerAt p)))

@@ -1,6 +1,7 @@
 // The items of a roof that has no spans beside it, kinds 2, 3, 5, 6, 7 and 10.
 ghost use mathlib.Core.Path.{_≡_};
-ghost use Rattle.roof_items.specs.RoofItems.{monopitchItem, pitchedItem, cylindricalItem, abuttingItem, projectionItem, lowerItem};
+ghost use lib.ListN.{length};
+ghost use Rattle.roof_items.specs.RoofItems.{monopitchItem, pitchedItem, cylindricalItem, abuttingItem, projectionItem, lowerAt, lowerItem};
 use figures::LowerRoof;
 use figures::Shape;
 use item_forms::Decoded;
@@ -88,18 +89,26 @@ pub fn projection_item(p: &[u8]) -> Decoded
     alone(Item::RoofItem(shape))
 }
 
-// A lower roof that takes its upper figures from another item of its sheet.
+// The fields of a lower roof that takes its upper figures from another item of its sheet. For the crates above, which know
+// the item's length.
+pub fn lower_at(p: &[u8]) -> LowerRoof
+    requires { ⌜ length (now p) ≡ 11 ⌝ }
+    ensures { λ r. ⌜ r ≡ lowerAt (now (p .entry)) ⌝ }
+{
+    LowerRoof {
+        b2: u32_at(p, 1),
+        h: u32_at(p, 5),
+        upper: p[9],
+        side: p[10],
+    }
+}
+
+// Its item.
 pub fn lower_item(p: &[u8]) -> Decoded
     ensures { λ r. ⌜ r ≡ lowerItem (now (p .entry)) ⌝ }
 {
     if p.len() != 11 {
         return refused(ITEM_LENGTH);
     }
-    let lower = LowerRoof {
-        b2: u32_at(p, 1),
-        h: u32_at(p, 5),
-        upper: p[9],
-        side: p[10],
-    };
-    alone(Item::LowerItem(lower))
+    alone(Item::LowerItem(lower_at(p)))
 }

@@ -138,14 +138,12 @@ module _ (s : List ℕ) where
     unfolding sheetRoof
     own-roof-is r i e f = f (itemAt s (upperIndex (itemAt s i))) ∙ rw (told, e)
 
-    pub item-told : (i : ℕ) → p ≡ part s i → d .item ≡ itemAt s i
-    item-told i e = rw (told, e)
-
-    pub lower-roof-is :
-        (lower : LowerRoof) (shape : Shape) (i : ℕ) → p ≡ part s i → d .item ≡ LowerItem lower
-        → shape ≡ steppedShape lower (upperShape (itemAt s (lower .upper))) → roofOf shape noSpans ≡ sheetRoof s i
-    unfolding sheetRoof
-    lower-roof-is lower shape i e l f = let h : itemAt s i ≡ LowerItem lower = sym (item-told i e) ∙ l in rw (f, h)
+  -- the roof of a lower roof's item by its fields
+  pub lower-roof-is :
+      (lower : LowerRoof) (shape : Shape) (i : ℕ) → LowerItem lower ≡ itemAt s i
+      → shape ≡ steppedShape lower (upperShape (itemAt s (lower .upper))) → roofOf shape noSpans ≡ sheetRoof s i
+  unfolding sheetRoof
+  lower-roof-is lower shape i e f = rw (f, ← e)
 
   -- a roof that is found is accepted
   pub sound-roof : (r : Roof) (i : ℕ) → 0 < i → ItemOf s i → r ≡ sheetRoof s i → (r ≡ sheetRoof s i) × (roofRefusal r ≡ 0)

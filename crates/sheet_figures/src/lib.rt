@@ -22,6 +22,7 @@ use items::Item;
 use items::decode;
 use map_sites::site_from;
 use pairs::part_at;
+use roof_items::lower_at;
 use sheet::Caller;
 use sheet::Located;
 use sheet::locate;
@@ -120,11 +121,7 @@ fn lower_roof(s: &[u8], i: usize) -> Roof
     requires { ⌜ ItemOf (now s) i × (isLower (itemAt (now s) i) ≡ true) ⌝ }
     ensures { λ r. ⌜ r ≡ sheetRoof (now (s .entry)) i ⌝ }
 {
-    let decoded = decode(part_at(s, i));
-    let item = decoded.item;
-    let Item::LowerItem(lower) = item else {
-        return no_roof();
-    };
+    let lower = lower_at(part_at(s, i));
     Roof {
         shape: shape_below(s, lower),
         spans: [0; SPAN_NUMBERS],

@@ -1,8 +1,8 @@
 -- Which items are lower roofs, and what the loops over a sheet's items find of them.
 use Prim.Native.Nat.{ℕ, zero, suc, _+_, _-_, _<_}
 use mathlib.Core.Bool.{true, false}
-use mathlib.Core.List.{List, [], _∷_, _++_}
-use mathlib.Core.Logic.{inl, inr, ⊎-elim}
+use mathlib.Core.List.{List, _++_}
+use mathlib.Core.Logic.{⊎-elim}
 use mathlib.Core.Path.{_≡_, refl, sym, ap, fun-ext, _∙_}
 use borrow.Author.Tests.{eq-eqb, eqb-true, eqb-false, lt-ltb, le-ltb, ltb-true, ltb-false}
 use lib.Dec.{ltb, eqb}
@@ -11,13 +11,11 @@ use lib.Seq.{getD-set-same, getD-set-other}
 use native.Mathlib.Nat.{eq-or-lt-of-le}
 use native.Mathlib.Numerals.{add-one}
 use native.Mathlib.Omega.{arith}
-use types.Run.{OneOf}
 use Rattle.little_endian.specs.Numbers.{byteAt}
 use Rattle.item_forms.specs.Forms.{sized}
 use Rattle.item_forms.specs.declared.Item.{Item}
 use Rattle.item_forms.specs.declared.Item.the-variants.{SiteItem, RoofItem, LowerItem, Malformed}
-use Rattle.item_forms.proofs.Variants.{variant}
-use Rattle.roof_items.specs.RoofItems.{lowerItem}
+use Rattle.roof_items.specs.RoofItems.{lowerAt, lowerItem}
 use Rattle.items.specs.Items.{byKind, content}
 use Rattle.items.proofs.Numbered.{by-content}
 use Rattle.circles.specs.Following.{upperIn}
@@ -37,9 +35,13 @@ module _ (p : List ℕ) where
   unfolding content byKind lowerItem sized
   lower-is l k = rw (l, k)
 
-  pub upper-byte : isLower (content p .item) ≡ true → byteAt p 9 ≡ upperIndex (content p .item)
+  -- and then its fields are these
+  pub lower-fields : isLower (content p .item) ≡ true → LowerItem (lowerAt p) ≡ content p .item
   unfolding content byKind lowerItem sized
-  upper-byte e = rw (lower-told e .1, lower-told e .0)
+  lower-fields e = rw (lower-told e .1, lower-told e .0)
+
+  pub upper-byte : isLower (content p .item) ≡ true → byteAt p 9 ≡ upperIndex (content p .item)
+  upper-byte e = ap upperIndex (lower-fields e)
 
   pub lower-length : isLower (content p .item) ≡ true → length p ≡ 11
   lower-length e = lower-told e .1
@@ -63,14 +65,6 @@ no-upper (SiteItem fields) e = refl
 no-upper (RoofItem shape) e = refl
 no-upper (LowerItem lower) e = clash refl e
 no-upper (Malformed number) e = refl
-
-pub other-variant : (x : Item) → OneOf (0 ∷ 1 ∷ 3 ∷ []) (variant x) → isLower x ≡ false
-other-variant (SiteItem fields) v = refl
-other-variant (RoofItem shape) v = refl
-other-variant (LowerItem lower) (inl e) = absurd (omega arith)
-other-variant (LowerItem lower) (inr (inl e)) = absurd (omega arith)
-other-variant (LowerItem lower) (inr (inr e)) = absurd (omega arith)
-other-variant (Malformed number) v = refl
 
 -- one of the items is a lower roof, or none is
 module _ (s : List ℕ) where
