@@ -9,7 +9,7 @@ use lib.Dec.{eqb}
 use native.Mathlib.Nat.{eq-zero-or-pos, le-mul-of-pos-right}
 use native.Mathlib.Omega.{arith}
 use Rattle.circles.specs.Following.{meets, comesBack, listed}
-use Rattle.circles.proofs.Tests.{told, clash, or-right}
+use Rattle.figures.proofs.Tests.{told, clash, or-right}
 use Rattle.circles.proofs.Lists.{listed-more, left, left-none, one-less, all-listed}
 
 -- the item that k steps up lead to

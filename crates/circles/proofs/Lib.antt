@@ -1,5 +1,4 @@
 pub mod Figures
 pub mod Following
 pub mod Lists
-pub mod Tests
 pub mod Turns

@@ -9,7 +9,7 @@ use lib.Dec.{eqb}
 use native.Mathlib.Nat.{eq-or-lt-of-le}
 use native.Mathlib.Omega.{arith}
 use Rattle.circles.specs.Following.{listed}
-use Rattle.circles.proofs.Tests.{told, or-right}
+use Rattle.figures.proofs.Tests.{told, or-right}
 
 pub listed-more : (l : List ℕ) (x i : ℕ) → listed (l ++ (x ∷ [])) i ≡ (eqb x i || listed l i)
 unfolding listed

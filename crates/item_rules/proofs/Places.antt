@@ -1,11 +1,14 @@
 -- An item in its place: where the first is no site, or a later one no roof, its number is its own refusal or 5.
 use Prim.Native.Nat.{ℕ, suc, _-_}
+use mathlib.Core.Bool.{false}
 use mathlib.Core.Path.{_≡_, refl}
 use mathlib.Core.List.{List, [], _∷_}
 use mathlib.Core.Logic.{inl, inr}
 use native.Mathlib.Omega.{arith}
 use types.Run.{OneOf}
+use Rattle.figures.proofs.Tests.{clash}
 use Rattle.item_forms.proofs.Variants.{variant}
+use Rattle.item_forms.specs.Forms.{isLower}
 use Rattle.item_forms.specs.declared.Item.{Item}
 use Rattle.item_forms.specs.declared.Item.the-variants.{SiteItem, RoofItem, LowerItem, Malformed}
 use Rattle.item_rules.specs.Figures.{noSite, siteBy}
@@ -21,16 +24,13 @@ first-misplaced (LowerItem lower) l v = (refl, refl)
 first-misplaced (Malformed number) l v = (refl, refl)
 
 -- and so for an item that is neither kind of roof in a later place
-pub later-misplaced :
-    (x : Item) (l : List ℕ) → OneOf (0 ∷ 2 ∷ 3 ∷ []) (variant x) → OneOf (0 ∷ 1 ∷ 3 ∷ []) (variant x) → misplaced x ≡ ruleNumber 1 x l
-later-misplaced (SiteItem fields) l v w = refl
-later-misplaced (RoofItem shape) l (inl e) w = absurd (omega arith)
-later-misplaced (RoofItem shape) l (inr (inl e)) w = absurd (omega arith)
-later-misplaced (RoofItem shape) l (inr (inr e)) w = absurd (omega arith)
-later-misplaced (LowerItem lower) l v (inl e) = absurd (omega arith)
-later-misplaced (LowerItem lower) l v (inr (inl e)) = absurd (omega arith)
-later-misplaced (LowerItem lower) l v (inr (inr e)) = absurd (omega arith)
-later-misplaced (Malformed number) l v w = refl
+pub later-misplaced : (x : Item) (l : List ℕ) → isLower x ≡ false → OneOf (0 ∷ 2 ∷ 3 ∷ []) (variant x) → misplaced x ≡ ruleNumber 1 x l
+later-misplaced (SiteItem fields) l e v = refl
+later-misplaced (RoofItem shape) l e (inl z) = absurd (omega arith)
+later-misplaced (RoofItem shape) l e (inr (inl z)) = absurd (omega arith)
+later-misplaced (RoofItem shape) l e (inr (inr z)) = absurd (omega arith)
+later-misplaced (LowerItem lower) l e v = clash refl e
+later-misplaced (Malformed number) l e v = refl
 
 -- every index after the first is one place
 pub later : (i : ℕ) (x : Item) (l : List ℕ) → (i ≡ 0 → ⊥) → ruleNumber 1 x l ≡ ruleNumber i x l

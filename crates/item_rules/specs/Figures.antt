@@ -4,6 +4,7 @@ use mathlib.Core.Bool.{false}
 use mathlib.Core.List.{List}
 use Rattle.figures.specs.RoofRules.{noSpans, roofOf}
 use Rattle.figures.specs.declared.site.Site.{Site}
+use Rattle.figures.specs.declared.roof.Shape.{Shape}
 use Rattle.figures.specs.declared.roof.Shape.the-variants.{MultiSpan}
 use Rattle.figures.specs.declared.roof.Roof.{Roof}
 use Rattle.map_sites.specs.Sites.{siteFrom}
@@ -15,8 +16,11 @@ use Rattle.stepped_roofs.specs.Stepped.{upperShape, steppedShape}
 abbrev pub noSite : Site
 noSite = record { sk = 0; ce = 0; ct = 0; cesl = 0; situation = 0; altitude = 0 }
 
+abbrev pub noShape : Shape
+noShape = MultiSpan 0 false
+
 abbrev pub noRoof : Roof
-noRoof = roofOf (MultiSpan 0 false) noSpans
+noRoof = roofOf noShape noSpans
 
 -- the site that an item says, from its ground load or from the map
 abbrev pub siteBy : Item → Site
@@ -25,9 +29,13 @@ siteBy (RoofItem shape) = noSite
 siteBy (LowerItem lower) = noSite
 siteBy (Malformed number) = noSite
 
--- the roof that an item says, with the spans beside it, and with what stands above it where its upper figures come from there
+-- the shape that an item says, with what stands above it where its upper figures come from there
+abbrev pub shapeBy : Item → Item → Shape
+shapeBy (SiteItem fields) above = noShape
+shapeBy (RoofItem shape) above = shape
+shapeBy (LowerItem lower) above = steppedShape lower (upperShape above)
+shapeBy (Malformed number) above = noShape
+
+-- the roof, with the spans beside it
 abbrev pub roofBy : Item → List ℕ → Item → Roof
-roofBy (SiteItem fields) spans above = noRoof
-roofBy (RoofItem shape) spans above = roofOf shape spans
-roofBy (LowerItem lower) spans above = roofOf (steppedShape lower (upperShape above)) noSpans
-roofBy (Malformed number) spans above = noRoof
+roofBy item spans above = roofOf (shapeBy item above) spans

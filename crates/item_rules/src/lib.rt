@@ -4,8 +4,10 @@ ghost use Rattle.items.specs.Items.{content};
 ghost use Rattle.item_rules.specs.Rules.{misplaced, ruleOf};
 use items::Item;
 use items::decode;
+use items::is_lower;
 use kind_rules::lower_refusal;
 use map_sites::site_data_refusal;
+use roof_items::lower_at;
 use roof_rules::shape_refusal;
 
 // The refusal of a place, by document 01's number.
@@ -39,13 +41,13 @@ fn first_number(p: &[u8]) -> u8
 fn later_number(p: &[u8]) -> u8
     ensures { λ r. ⌜ r ≡ ruleOf 1 (content (now (p .entry))) ⌝ }
 {
+    if is_lower(p) {
+        return lower_refusal(lower_at(p));
+    }
     let decoded = decode(p);
     let item = decoded.item;
     let Item::RoofItem(shape) = item else {
-        let Item::LowerItem(lower) = item else {
-            return misplaced_number(item);
-        };
-        return lower_refusal(lower);
+        return misplaced_number(item);
     };
     shape_refusal(shape, &decoded.spans)
 }

@@ -1,5 +1,6 @@
 // What an item's bytes say: a site, the shape of a roof with its spans, or the number by which their form is refused.
 ghost use mathlib.Core.Path.{_≡_};
+ghost use Rattle.item_forms.specs.Forms.{isLower};
 ghost use Rattle.items.specs.Items.{content};
 pub use item_forms::Decoded;
 use item_forms::ITEM_LENGTH;
@@ -16,6 +17,11 @@ use site_items::map_site_item;
 use site_items::site_item;
 use span_items::drifted_item;
 use span_items::multi_span_item;
+
+// The kind of a lower roof, by document 02's number, and the length of its item.
+const LOWER_KIND: u8 = 10;
+
+const LOWER_LENGTH: usize = 11;
 
 // What an item's bytes say. It asks for its kind and its length alone; the value rules are the figures'.
 pub fn decode(p: &[u8]) -> Decoded
@@ -43,4 +49,14 @@ pub fn decode(p: &[u8]) -> Decoded
         10 => lower_item(p),
         _ => refused(UNKNOWN_KIND),
     }
+}
+
+// Whether an item's bytes are a lower roof's. It is told by the kind and the length, without decoding.
+pub fn is_lower(p: &[u8]) -> bool
+    ensures { λ r. ⌜ r ≡ isLower (content (now (p .entry)) .item) ⌝ }
+{
+    if p.len() != LOWER_LENGTH {
+        return false;
+    }
+    p[0] == LOWER_KIND
 }

@@ -13,7 +13,7 @@ use native.Mathlib.Omega.{arith}
 use Rattle.figures.proofs.Laws.{both}
 use Rattle.circles.specs.Following.{comesBack, listed}
 use Rattle.order.specs.Order.{lowest, ready, nextRoof, added, firstRoofs, order, times, Ordered, upTo}
-use Rattle.circles.proofs.Tests.{told, clash}
+use Rattle.figures.proofs.Tests.{told, clash}
 use Rattle.order.proofs.Searching.{none, found, first}
 use Rattle.circles.proofs.Lists.{listed-more, more-same, more-other, more-kept, left, left-none, one-less, all-listed, some-left}
 use Rattle.circles.proofs.Following.{after, ends}

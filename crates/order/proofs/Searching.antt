@@ -5,7 +5,7 @@ use mathlib.Core.Bool.{Bool, true, false}
 use mathlib.Core.Logic.{⊎-elim}
 use native.Mathlib.Nat.{eq-or-lt-of-le}
 use native.Mathlib.Omega.{arith}
-use Rattle.circles.proofs.Tests.{told}
+use Rattle.figures.proofs.Tests.{told}
 use Rattle.order.specs.Order.{lowest}
 
 module _ (test : ℕ → Bool) where

@@ -12,7 +12,7 @@ use native.Mathlib.Numerals.{add-one}
 use native.Mathlib.Omega.{arith}
 use Rattle.circles.specs.Following.{listed}
 use Rattle.order.specs.Order.{markedIn, ready, nextRoof, added, firstRoofs, order, upTo}
-use Rattle.circles.proofs.Tests.{told}
+use Rattle.figures.proofs.Tests.{told}
 use Rattle.order.proofs.Searching.{found}
 use Rattle.circles.proofs.Lists.{listed-more}
 use Rattle.order.proofs.Listing.{added-roof, upto-length}

@@ -20,7 +20,8 @@ use Rattle.pairs.specs.declared.Verdict.the-variants.{Accepted, Refused}
 use Rattle.pairs.proofs.Kept.{PairsKept, pairs-kept, parts-in, not-refused, passed, both-accepted, one-refused, named-in, pair-named}
 use Rattle.order.specs.Order.{Ordered, upTo}
 use Rattle.order.proofs.Listing.{in-turn}
-use Rattle.upper_items.specs.Uppers.{itemAt, isLower, upper, steppedIn, roofOrder}
+use Rattle.item_forms.specs.Forms.{isLower}
+use Rattle.upper_items.specs.Uppers.{itemAt, upper, steppedIn, roofOrder}
 use Rattle.upper_items.proofs.Lowers.{none-above}
 use Rattle.upper_rules.specs.UpperRules.{uppersVerdict}
 use Rattle.upper_rules.proofs.Kept.{UppersKept, uppers-kept, upper-named, roofs-ordered}

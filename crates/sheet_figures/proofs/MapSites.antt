@@ -20,15 +20,18 @@ use Rattle.little_endian.specs.Numbers.{byteAt}
 use Rattle.ceilings.specs.Ceilings.{terminals}
 use Rattle.pairs.specs.Pairs.{Answer, accepted, refused, offset, size, inTurn, andThen, part}
 use Rattle.pairs.proofs.Kept.{pairs-kept}
+use Rattle.figures.specs.RoofRules.{roofOf}
 use Rattle.figures.specs.Rules.{refusedIf}
+use Rattle.figures.specs.declared.roof.Shape.{Shape}
 use Rattle.circles.specs.Following.{comesBack}
-use Rattle.upper_items.specs.Uppers.{itemAt, isLower, upperIndex, upper, roofOrder}
+use Rattle.item_forms.specs.Forms.{isLower}
+use Rattle.upper_items.specs.Uppers.{itemAt, upperIndex, upper, roofOrder}
 use Rattle.upper_rules.specs.UpperRules.{mayStandAbove, upperNumber, circleNumber, uppersVerdict}
 use Rattle.upper_rules.proofs.Kept.{upper-below}
 use Rattle.stepped_roofs.specs.Stepped.{isUpper, upperShape}
 use Rattle.order.specs.Order.{order}
 use Rattle.sheet.proofs.Kept.{sheet-kept, sheet-items}
-use Rattle.item_rules.specs.Figures.{siteBy, roofBy}
+use Rattle.item_rules.specs.Figures.{siteBy, shapeBy, roofBy}
 use Rattle.item_rules.specs.Rules.{ruleNumber}
 use Rattle.sheet.specs.Sheet.{itemNumber, sheetVerdict, placeBy, place}
 use Rattle.sheet_figures.specs.Find.{sheetSite, sheetRoof, foundIn, foundBy, found}
@@ -143,14 +146,14 @@ module _ (s t : List ℕ) (n : ℕ) (g : GivenLoad s t n) where
     unfolding sheetRoof
     same-roof i a b =
         let e = same-by upperShape (λ x y. refl) (upperIndex (itemAt s i)) (above-below i b) in
-        by-upper (itemAt s i) (content (part s i) .spans) _ _ e
+        ap (λ (x : Shape). roofOf x (content (part s i) .spans)) (by-upper (itemAt s i) _ _ e)
         ∙ ap (λ (p : List ℕ). roofBy (content p .item) (content p .spans) (itemAt t (upperIndex (content p .item)))) (g .others i a b)
       where
-        by-upper : (x : Item) (l : List ℕ) (y z : Item) → upperShape y ≡ upperShape z → roofBy x l y ≡ roofBy x l z
-        by-upper (SiteItem fields) l y z e = refl
-        by-upper (RoofItem shape) l y z e = refl
-        by-upper (LowerItem lower) l y z e = rw e
-        by-upper (Malformed number) l y z e = refl
+        by-upper : (x y z : Item) → upperShape y ≡ upperShape z → shapeBy x y ≡ shapeBy x z
+        by-upper (SiteItem fields) y z e = refl
+        by-upper (RoofItem shape) y z e = refl
+        by-upper (LowerItem lower) y z e = rw e
+        by-upper (Malformed number) y z e = refl
 
     same-in : (i : ℕ) → i < n → foundIn s i ≡ foundIn t i
     same-in zero h = rw same-site

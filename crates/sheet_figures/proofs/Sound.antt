@@ -8,7 +8,7 @@ use mathlib.Core.Path.{_≡_, refl, sym, ap, subst, _∙_}
 use native.Mathlib.Omega.{arith}
 use types.Run.{OneOf}
 use Rattle.figures.specs.Ranges.{within}
-use Rattle.figures.specs.RoofRules.{kindOf, noSpans, roofOf, roofRefusal}
+use Rattle.figures.specs.RoofRules.{kindOf, roofOf, roofRefusal}
 use Rattle.figures.specs.SiteRules.{siteRefusal}
 use Rattle.figures.specs.Slopes.{AcceptedShape}
 use Rattle.figures.specs.declared.site.Site.{Site}
@@ -24,15 +24,16 @@ use Rattle.item_forms.specs.declared.Decoded.{Decoded}
 use Rattle.item_forms.proofs.Variants.{variant}
 use Rattle.stepped_roofs.specs.Stepped.{isUpper, upperShape, steppedShape}
 use Rattle.stepped_roofs.proofs.Uppers.{flat-accepted, stepped-accepted}
-use Rattle.circles.proofs.Tests.{clash}
-use Rattle.upper_items.specs.Uppers.{itemAt, isLower, upperIndex}
+use Rattle.figures.proofs.Tests.{clash}
+use Rattle.item_forms.specs.Forms.{isLower}
+use Rattle.upper_items.specs.Uppers.{itemAt, upperIndex}
 use Rattle.upper_rules.proofs.Kept.{Above, stands-above}
 use Rattle.pairs.proofs.Kept.{parts-in}
 use Rattle.sheet.proofs.Kept.{SheetKept, sheet-kept, item-in, located-of}
-use Rattle.sheet_figures.specs.Find.{sheetSite, sheetRoof, OwnRoof, foundIn, foundBy, found}
+use Rattle.sheet_figures.specs.Find.{sheetSite, sheetRoof, foundIn, foundBy, found}
 use Rattle.ceilings.specs.Ceilings.{terminals}
 use Rattle.pairs.specs.Pairs.{Answer, accepted, refused, part, PartIn}
-use Rattle.item_rules.specs.Figures.{noSite, noRoof, siteBy, roofBy}
+use Rattle.item_rules.specs.Figures.{noSite, noShape, noRoof, siteBy, shapeBy, roofBy}
 use Rattle.item_rules.specs.Rules.{ruleNumber, ruleOf}
 use Rattle.sheet.specs.Sheet.{ItemIn, ItemOf, Place, itemNumber, place}
 use Rattle.sheet_figures.specs.declared.Finding.the-variants.{RoofFound, NoRoof, Refused}
@@ -63,17 +64,17 @@ roof-by i (SiteItem fields) above l n e u = absurd (omega arith)
 roof-by i (RoofItem shape) above l n e u = e
 roof-by i (LowerItem lower) above l n e u =
     let a = u refl in
-    stepped-accepted lower (upperShape above) (a .shape .spans) noSpans e (a .shape .accepted) (a .kind)
+    stepped-accepted lower (upperShape above) (a .shape .spans) l e (a .shape .accepted) (a .kind)
 roof-by i (Malformed number) above l n e u = absurd (omega arith)
 
--- an item that is neither kind of roof says none
-pub no-own-roof : (x above : Item) (l : List ℕ) → isLower x ≡ false → OneOf (0 ∷ 2 ∷ 3 ∷ []) (variant x) → noRoof ≡ roofBy x l above
-no-own-roof (SiteItem fields) above l e v = refl
-no-own-roof (RoofItem shape) above l e (inl z) = absurd (omega arith)
-no-own-roof (RoofItem shape) above l e (inr (inl z)) = absurd (omega arith)
-no-own-roof (RoofItem shape) above l e (inr (inr z)) = absurd (omega arith)
-no-own-roof (LowerItem lower) above l e v = clash refl e
-no-own-roof (Malformed number) above l e v = refl
+-- an item that is neither kind of roof says no shape
+pub no-own-shape : (x above : Item) → isLower x ≡ false → OneOf (0 ∷ 2 ∷ 3 ∷ []) (variant x) → noShape ≡ shapeBy x above
+no-own-shape (SiteItem fields) above e v = refl
+no-own-shape (RoofItem shape) above e (inl z) = absurd (omega arith)
+no-own-shape (RoofItem shape) above e (inr (inl z)) = absurd (omega arith)
+no-own-shape (RoofItem shape) above e (inr (inr z)) = absurd (omega arith)
+no-own-shape (LowerItem lower) above e v = clash refl e
+no-own-shape (Malformed number) above e v = refl
 
 module _ (s : List ℕ) where
   pub site-sound : itemNumber s 0 ≡ 0 → siteRefusal (sheetSite s) ≡ 0
@@ -134,16 +135,18 @@ module _ (s : List ℕ) where
         let g : r ≡ sheetSite s = rw (f, told, e) in
         (g, rw g (site-sound h))
 
-    pub own-roof-is : (r : Roof) (i : ℕ) → p ≡ part s i → OwnRoof d r → r ≡ sheetRoof s i
-    unfolding sheetRoof
-    own-roof-is r i e f = f (itemAt s (upperIndex (itemAt s i))) ∙ rw (told, e)
+    pub item-told : (i : ℕ) → p ≡ part s i → d .item ≡ itemAt s i
+    item-told i e = rw (told, e)
 
-  -- the roof of a lower roof's item by its fields
-  pub lower-roof-is :
-      (lower : LowerRoof) (shape : Shape) (i : ℕ) → LowerItem lower ≡ itemAt s i
-      → shape ≡ steppedShape lower (upperShape (itemAt s (lower .upper))) → roofOf shape noSpans ≡ sheetRoof s i
-  unfolding sheetRoof
-  lower-roof-is lower shape i e f = rw (f, ← e)
+    pub roof-is : (shape : Shape) (i : ℕ) → p ≡ part s i → shape ≡ shapeBy (d .item) (itemAt s (upperIndex (d .item))) → roofOf shape (d .spans) ≡ sheetRoof s i
+    unfolding sheetRoof
+    roof-is shape i e f = ap (λ (x : Shape). roofOf x (d .spans)) f ∙ rw (told, e)
+
+  -- the shape of a lower roof's item by its fields
+  pub lower-shape-is :
+      (lower : LowerRoof) (item : Item) (shape : Shape) → LowerItem lower ≡ item
+      → shape ≡ steppedShape lower (upperShape (itemAt s (lower .upper))) → shape ≡ shapeBy item (itemAt s (upperIndex item))
+  lower-shape-is lower item shape e f = subst (λ (x : Item). shape ≡ shapeBy x (itemAt s (upperIndex x))) e f
 
   -- a roof that is found is accepted
   pub sound-roof : (r : Roof) (i : ℕ) → 0 < i → ItemOf s i → r ≡ sheetRoof s i → (r ≡ sheetRoof s i) × (roofRefusal r ≡ 0)

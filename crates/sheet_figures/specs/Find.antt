@@ -2,15 +2,15 @@
 use Prim.Native.Nat.{ℕ, zero, suc}
 use mathlib.Core.List.{List}
 use Rattle.figures.specs.declared.site.Site.{Site}
+use Rattle.figures.specs.declared.roof.Shape.{Shape}
 use Rattle.figures.specs.declared.roof.Roof.{Roof}
 use mathlib.Core.Path.{_≡_}
 use Rattle.items.specs.Items.{content}
 use Rattle.item_forms.specs.declared.Item.{Item}
-use Rattle.item_forms.specs.declared.Decoded.{Decoded}
 use Rattle.ceilings.specs.Ceilings.{terminals}
 use Rattle.pairs.specs.Pairs.{Answer, accepted, refused, part}
 use Rattle.upper_items.specs.Uppers.{itemAt, upperIndex}
-use Rattle.item_rules.specs.Figures.{noSite, noRoof, siteBy, roofBy}
+use Rattle.item_rules.specs.Figures.{noSite, noRoof, siteBy, shapeBy, roofBy}
 use Rattle.sheet.specs.Sheet.{Place, place}
 use Rattle.sheet_figures.specs.declared.Finding.the-variants.{RoofFound, NoRoof, Refused}
 use Rattle.sheet_figures.specs.declared.Found.{Found}
@@ -23,9 +23,9 @@ sheetSite s = siteBy (itemAt s 0)
 unfoldable pub sheetRoof : List ℕ → ℕ → Roof
 sheetRoof s i = roofBy (itemAt s i) (content (part s i) .spans) (itemAt s (upperIndex (itemAt s i)))
 
--- r is the roof that an item says by itself, whatever stands above it
-abbrev pub OwnRoof : Decoded → Roof → Type 0
-OwnRoof d r = (above : Item) → r ≡ roofBy (d .item) (d .spans) above
+-- r is the shape that an item says by itself, whatever stands above it
+abbrev pub OwnShape : Item → Shape → Type 0
+OwnShape item r = (above : Item) → r ≡ shapeBy item above
 
 -- what an accepted sheet has at an index: its first item is the site, and no roof
 abbrev pub foundIn : List ℕ → ℕ → Found

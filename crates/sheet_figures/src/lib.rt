@@ -1,17 +1,18 @@
 // The one place where a sheet becomes figures: the sheet's site and an item's roof.
-ghost use mathlib.Core.Bool.{true, false};
+ghost use mathlib.Core.Bool.{false};
 ghost use mathlib.Core.Path.{_≡_};
 ghost use Prim.Native.Nat.{_<_};
 ghost use Rattle.figures.specs.RoofRules.{roofRefusal};
 ghost use Rattle.figures.specs.SiteRules.{siteRefusal};
-ghost use Rattle.item_rules.specs.Figures.{noSite, noRoof, siteBy};
+ghost use Rattle.item_rules.specs.Figures.{noSite, noShape, noRoof, siteBy, shapeBy};
 ghost use Rattle.item_rules.specs.Rules.{ruleOf};
 ghost use Rattle.figures.specs.Slopes.{AcceptedShape};
 ghost use Rattle.stepped_roofs.specs.Stepped.{upperShape, steppedShape};
 ghost use Rattle.pairs.specs.Pairs.{PartIn};
-ghost use Rattle.upper_items.specs.Uppers.{itemAt, isLower};
+ghost use Rattle.item_forms.specs.Forms.{isLower};
+ghost use Rattle.upper_items.specs.Uppers.{itemAt, upperIndex};
 ghost use Rattle.sheet.specs.Sheet.{ItemIn, ItemOf};
-ghost use Rattle.sheet_figures.specs.Find.{sheetSite, sheetRoof, OwnRoof, foundIn, found};
+ghost use Rattle.sheet_figures.specs.Find.{sheetSite, sheetRoof, OwnShape, foundIn, found};
 use figures::LowerRoof;
 use figures::Roof;
 use figures::SPAN_NUMBERS;
@@ -20,6 +21,7 @@ use figures::Site;
 use items::Decoded;
 use items::Item;
 use items::decode;
+use items::is_lower;
 use map_sites::site_from;
 use pairs::part_at;
 use roof_items::lower_at;
@@ -28,7 +30,6 @@ use sheet::Located;
 use sheet::locate;
 use stepped_roofs::stepped_shape;
 use stepped_roofs::upper_shape;
-use upper_items::is_lower;
 
 // What there is at an index: a roof, the site's item, which is no roof, or a refusal with its number and the item that it
 // names.
@@ -58,14 +59,20 @@ fn no_site() -> Site
     }
 }
 
+fn no_shape() -> Shape
+    ensures { λ r. ⌜ r ≡ noShape ⌝ }
+{
+    Shape::MultiSpan {
+        count: 0,
+        drifts: false,
+    }
+}
+
 fn no_roof() -> Roof
     ensures { λ r. ⌜ r ≡ noRoof ⌝ }
 {
     Roof {
-        shape: Shape::MultiSpan {
-            count: 0,
-            drifts: false,
-        },
+        shape: no_shape(),
         spans: [0; SPAN_NUMBERS],
     }
 }
@@ -82,20 +89,15 @@ fn site_of(decoded: Decoded) -> Site
     site_from(fields)
 }
 
-// The roof that an item says by itself: any but a lower roof, whatever stands above it.
-fn roof_of(decoded: Decoded) -> Roof
-    requires { ⌜ isLower (decoded .item) ≡ false ⌝ }
-    ensures { λ r. ⌜ OwnRoof decoded r ⌝ }
+// The shape that an item says by itself: any but a lower roof, whatever stands above it.
+fn own_shape(item: Item) -> Shape
+    requires { ⌜ isLower item ≡ false ⌝ }
+    ensures { λ r. ⌜ OwnShape item r ⌝ }
 {
-    let item = decoded.item;
-    let spans = decoded.spans;
     let Item::RoofItem(shape) = item else {
-        return no_roof();
+        return no_shape();
     };
-    Roof {
-        shape: shape,
-        spans: spans,
-    }
+    shape
 }
 
 // The shape of a lower roof by its upper item, where that lies in the sheet and is sound.
@@ -116,16 +118,16 @@ pub fn site_in(s: &[u8]) -> Site
     site_of(decode(part_at(s, 0)))
 }
 
-// The roof of a lower roof's item of an accepted sheet.
-fn lower_roof(s: &[u8], i: usize) -> Roof
-    requires { ⌜ ItemOf (now s) i × (isLower (itemAt (now s) i) ≡ true) ⌝ }
-    ensures { λ r. ⌜ r ≡ sheetRoof (now (s .entry)) i ⌝ }
+// The shape of an item of an accepted sheet, by what it says and, of a lower roof, by its upper item.
+fn shape_in(s: &[u8], i: usize, item: Item) -> Shape
+    requires { ⌜ ItemOf (now s) i × (item ≡ itemAt (now s) i) ⌝ }
+    ensures { λ r. ⌜ r ≡ shapeBy item (itemAt (now (s .entry)) (upperIndex item)) ⌝ }
 {
-    let lower = lower_at(part_at(s, i));
-    Roof {
-        shape: shape_below(s, lower),
-        spans: [0; SPAN_NUMBERS],
+    let p = part_at(s, i);
+    if is_lower(p) {
+        return shape_below(s, lower_at(p));
     }
+    own_shape(item)
 }
 
 // The roof of a later item of an accepted sheet. For the crates above, which have the verdict.
@@ -133,11 +135,13 @@ pub fn roof_in(s: &[u8], i: usize) -> Roof
     requires { ⌜ ItemOf (now s) i × (0 < i) ⌝ }
     ensures { λ r. ⌜ (r ≡ sheetRoof (now (s .entry)) i) × (roofRefusal r ≡ 0) ⌝ }
 {
-    let p = part_at(s, i);
-    if is_lower(p) {
-        return lower_roof(s, i);
+    let decoded = decode(part_at(s, i));
+    let item = decoded.item;
+    let spans = decoded.spans;
+    Roof {
+        shape: shape_in(s, i, item),
+        spans: spans,
     }
-    roof_of(decode(p))
 }
 
 // What an accepted sheet has at an index of an item.

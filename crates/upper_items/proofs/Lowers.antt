@@ -1,10 +1,10 @@
--- Which items are lower roofs, and what the loops over a sheet's items find of them.
+-- What the loops over a sheet's items find of lower roofs and their upper items.
 use Prim.Native.Nat.{ℕ, zero, suc, _+_, _-_, _<_}
 use mathlib.Core.Bool.{true, false}
 use mathlib.Core.List.{List, _++_}
 use mathlib.Core.Logic.{⊎-elim}
 use mathlib.Core.Path.{_≡_, refl, sym, ap, fun-ext, _∙_}
-use borrow.Author.Tests.{eq-eqb, eqb-true, eqb-false, lt-ltb, le-ltb, ltb-true, ltb-false}
+use borrow.Author.Tests.{eqb-true, eqb-false, lt-ltb, le-ltb, ltb-true, ltb-false}
 use lib.Dec.{ltb, eqb}
 use lib.ListN.{length, drop, getD, set, replicate, length-set}
 use lib.Seq.{getD-set-same, getD-set-other}
@@ -12,52 +12,20 @@ use native.Mathlib.Nat.{eq-or-lt-of-le}
 use native.Mathlib.Numerals.{add-one}
 use native.Mathlib.Omega.{arith}
 use Rattle.little_endian.specs.Numbers.{byteAt}
-use Rattle.item_forms.specs.Forms.{sized}
 use Rattle.item_forms.specs.declared.Item.{Item}
 use Rattle.item_forms.specs.declared.Item.the-variants.{SiteItem, RoofItem, LowerItem, Malformed}
-use Rattle.roof_items.specs.RoofItems.{lowerAt, lowerItem}
-use Rattle.items.specs.Items.{byKind, content}
-use Rattle.items.proofs.Numbered.{by-content}
+use Rattle.items.specs.Items.{content}
+use Rattle.items.proofs.Lowers.{lower-fields}
 use Rattle.circles.specs.Following.{upperIn}
-use Rattle.circles.proofs.Tests.{told, clash, or-right}
+use Rattle.figures.proofs.Tests.{told, clash, or-right}
 use Rattle.order.specs.Order.{order, upTo}
 use Rattle.order.proofs.Listing.{in-turn, upto-length}
-use Rattle.upper_items.specs.Uppers.{itemAt, isLower, upperIndex, upper, steppedIn, roofOrder}
+use Rattle.item_forms.specs.Forms.{isLower}
+use Rattle.upper_items.specs.Uppers.{itemAt, upperIndex, upper, steppedIn, roofOrder}
 
--- a lower roof is told by its kind and its length
-module _ (p : List ℕ) where
-  lower-told : isLower (content p .item) ≡ true → (byteAt p 0 ≡ 10) × (length p ≡ 11)
-  lower-told =
-      by-content (λ (x : Item). isLower x ≡ true → (byteAt p 0 ≡ 10) × (length p ≡ 11)) (λ fields e. clash e refl) (λ shape e. clash e refl)
-      (λ number h e. clash e refl) p (λ lower k l e. (k, l))
-
-  lower-is : length p ≡ 11 → byteAt p 0 ≡ 10 → isLower (content p .item) ≡ true
-  unfolding content byKind lowerItem sized
-  lower-is l k = rw (l, k)
-
-  -- and then its fields are these
-  pub lower-fields : isLower (content p .item) ≡ true → LowerItem (lowerAt p) ≡ content p .item
-  unfolding content byKind lowerItem sized
-  lower-fields e = rw (lower-told e .1, lower-told e .0)
-
-  pub upper-byte : isLower (content p .item) ≡ true → byteAt p 9 ≡ upperIndex (content p .item)
-  upper-byte e = ap upperIndex (lower-fields e)
-
-  pub lower-length : isLower (content p .item) ≡ true → length p ≡ 11
-  lower-length e = lower-told e .1
-
-  pub other-length : (length p ≡ 11 → ⊥) → false ≡ isLower (content p .item)
-  other-length h =
-      ⊎-elim (λ (t : isLower (content p .item) ≡ true). absurd (h (lower-told t .1))) (λ (t : isLower (content p .item) ≡ false). sym t)
-      (told (isLower (content p .item)))
-
-  pub by-its-kind : length p ≡ 11 → eqb (byteAt p 0) 10 ≡ isLower (content p .item)
-  by-its-kind l =
-      ⊎-elim (λ (t : isLower (content p .item) ≡ true). eq-eqb (byteAt p 0) 10 (lower-told t .0) ∙ sym t)
-      (λ (t : isLower (content p .item) ≡ false).
-      ⊎-elim (λ (k : eqb (byteAt p 0) 10 ≡ true). clash (lower-is l (eqb-true (byteAt p 0) 10 k)) t)
-      (λ (k : eqb (byteAt p 0) 10 ≡ false). k ∙ sym t) (told (eqb (byteAt p 0) 10)))
-      (told (isLower (content p .item)))
+-- the byte of an upper item's index
+pub upper-byte : (p : List ℕ) → isLower (content p .item) ≡ true → byteAt p 9 ≡ upperIndex (content p .item)
+upper-byte p e = ap upperIndex (lower-fields p e)
 
 -- any other item has no upper item
 pub no-upper : (x : Item) → isLower x ≡ false → 0 ≡ upperIndex x

@@ -1,9 +1,10 @@
 -- The upper items of a sheet, and the order in which its roofs are listed: document 02, A7.
 use Prim.Native.Nat.{ℕ, zero, suc, _-_}
-use mathlib.Core.Bool.{Bool, true, false, cond, _||_}
+use mathlib.Core.Bool.{Bool, false, cond, _||_}
 use mathlib.Core.List.{List}
 use lib.Dec.{ltb}
 use Rattle.items.specs.Items.{content}
+use Rattle.item_forms.specs.Forms.{isLower}
 use Rattle.item_forms.specs.declared.Item.{Item}
 use Rattle.item_forms.specs.declared.Item.the-variants.{SiteItem, RoofItem, LowerItem, Malformed}
 use Rattle.pairs.specs.Pairs.{part}
@@ -12,13 +13,6 @@ use Rattle.order.specs.Order.{order}
 -- what item i of a sheet says
 abbrev pub itemAt : List ℕ → ℕ → Item
 itemAt s i = content (part s i) .item
-
--- whether an item is of kind 10
-abbrev pub isLower : Item → Bool
-isLower (SiteItem fields) = false
-isLower (RoofItem shape) = false
-isLower (LowerItem lower) = true
-isLower (Malformed number) = false
 
 -- "the index of the upper item"; 0, the site's index, where an item has none
 abbrev pub upperIndex : Item → ℕ

@@ -6,7 +6,9 @@ ghost use lib.ListN.{length, drop, replicate};
 ghost use Rattle.circles.specs.Following.{upperIn};
 ghost use Rattle.items.specs.Items.{content};
 ghost use Rattle.pairs.specs.Pairs.{PartsIn};
-ghost use Rattle.upper_items.specs.Uppers.{isLower, upperIndex, upper, steppedIn, roofOrder};
+ghost use Rattle.item_forms.specs.Forms.{isLower};
+ghost use Rattle.upper_items.specs.Uppers.{upperIndex, upper, steppedIn, roofOrder};
+use items::is_lower;
 use order::list_by_index;
 use order::list_order;
 use pairs::part_at;
@@ -14,24 +16,9 @@ use pairs::part_at;
 // The most items that a sheet has.
 pub const ITEMS: usize = 32;
 
-// The kind of a lower roof, by document 02's number, and the length of its item. That these three agree with what the item says
-// is proved: no item is decoded here.
-const LOWER_KIND: u8 = 10;
-
-const LOWER_LENGTH: usize = 11;
-
-// Where the index of its upper item stands.
+// Where the index of its upper item stands in a lower roof's item. That it agrees with what the item says is proved: no item is
+// decoded here.
 const UPPER_BYTE: usize = 9;
-
-// Whether an item's bytes are a lower roof's.
-pub fn is_lower(p: &[u8]) -> bool
-    ensures { λ r. ⌜ r ≡ isLower (content (now (p .entry)) .item) ⌝ }
-{
-    if p.len() != LOWER_LENGTH {
-        return false;
-    }
-    p[0] == LOWER_KIND
-}
 
 // The index of an item's upper item, 0 where it has none.
 pub fn upper_index(p: &[u8]) -> u8

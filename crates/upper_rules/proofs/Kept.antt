@@ -13,10 +13,11 @@ use Rattle.stepped_roofs.specs.Stepped.{isUpper}
 use Rattle.pairs.specs.Pairs.{accepted, refused, inTurn}
 use Rattle.pairs.proofs.Kept.{passed, both-accepted, one-refused, named-in}
 use Rattle.circles.specs.Following.{comesBack}
-use Rattle.circles.proofs.Tests.{told}
+use Rattle.figures.proofs.Tests.{told}
 use Rattle.order.specs.Order.{Ordered}
 use Rattle.order.proofs.Listing.{ordered}
-use Rattle.upper_items.specs.Uppers.{itemAt, isLower, upperIndex, upper, roofOrder}
+use Rattle.item_forms.specs.Forms.{isLower}
+use Rattle.upper_items.specs.Uppers.{itemAt, upperIndex, upper, roofOrder}
 use Rattle.upper_items.proofs.Lowers.{no-upper}
 use Rattle.upper_rules.specs.UpperRules.{mayStandAbove, upperNumber, circleNumber, uppersVerdict}
 

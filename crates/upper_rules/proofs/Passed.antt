@@ -11,7 +11,8 @@ use Rattle.stepped_roofs.specs.Stepped.{isUpper}
 use Rattle.pairs.specs.Pairs.{accepted, refused, inTurn}
 use Rattle.circles.specs.Following.{upperIn, comesBack}
 use Rattle.circles.proofs.Turns.{none-met}
-use Rattle.upper_items.specs.Uppers.{itemAt, isLower, upperIndex, upper, steppedIn}
+use Rattle.item_forms.specs.Forms.{isLower}
+use Rattle.upper_items.specs.Uppers.{itemAt, upperIndex, upper, steppedIn}
 use Rattle.upper_items.proofs.Lowers.{no-upper, none-stepped, none-above}
 use Rattle.upper_rules.specs.UpperRules.{mayStandAbove, upperNumber, circleNumber, uppersVerdict}
 

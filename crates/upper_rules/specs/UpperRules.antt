@@ -7,7 +7,8 @@ use Rattle.figures.specs.Rules.{refusedIf}
 use Rattle.stepped_roofs.specs.Stepped.{isUpper}
 use Rattle.pairs.specs.Pairs.{Answer, inTurn, andThen}
 use Rattle.circles.specs.Following.{comesBack}
-use Rattle.upper_items.specs.Uppers.{itemAt, isLower, upperIndex, upper}
+use Rattle.item_forms.specs.Forms.{isLower}
+use Rattle.upper_items.specs.Uppers.{itemAt, upperIndex, upper}
 
 -- "The upper item is of kind 2, 3 or 10", and one of the n items
 abbrev pub mayStandAbove : List ℕ → ℕ → ℕ → Bool

@@ -5,15 +5,16 @@ ghost use Prim.Native.Nat.{_-_, _≤_, _<_};
 ghost use Rattle.circles.specs.Following.{upperIn, comesBack};
 ghost use Rattle.figures.specs.Rules.{refusedIf};
 ghost use Rattle.pairs.specs.Pairs.{inTurn, PartsIn, verdictMeans};
-ghost use Rattle.upper_items.specs.Uppers.{itemAt, isLower};
+ghost use Rattle.item_forms.specs.Forms.{isLower};
+ghost use Rattle.upper_items.specs.Uppers.{itemAt};
 ghost use Rattle.upper_rules.specs.UpperRules.{mayStandAbove, upperNumber, uppersVerdict};
 use circles::comes_back;
 use items::decode;
+use items::is_lower;
 use pairs::Verdict;
 use pairs::part_at;
 use stepped_roofs::is_upper;
 use upper_items::has_lower;
-use upper_items::is_lower;
 use upper_items::upper_index;
 use upper_items::uppers;
 

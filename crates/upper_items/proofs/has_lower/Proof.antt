@@ -5,7 +5,8 @@ use Prim.Native.Nat.{ℕ}
 use mathlib.Core.List.{List}
 use denote.Ref.{now}
 use Rattle.items.specs.Items.{content}
-use Rattle.upper_items.specs.Uppers.{itemAt, isLower, steppedIn}
+use Rattle.item_forms.specs.Forms.{isLower}
+use Rattle.upper_items.specs.Uppers.{itemAt, steppedIn}
 use Rattle.upper_items.proofs.Lowers.{stepped-at, stepped-next}
 use borrow.Author.Needs.{needs}
 use native.Mathlib.Omega.{arith}

@@ -2,8 +2,9 @@ use mathlib.Core.Bool.{true}
 use mathlib.Core.Path.{_≡_, sym, _∙_}
 use denote.Ref.{now}
 use Rattle.items.specs.Items.{content}
-use Rattle.upper_items.specs.Uppers.{isLower}
-use Rattle.upper_items.proofs.Lowers.{lower-length, upper-byte, no-upper}
+use Rattle.item_forms.specs.Forms.{isLower}
+use Rattle.items.proofs.Lowers.{lower-length}
+use Rattle.upper_items.proofs.Lowers.{upper-byte, no-upper}
 use borrow.Author.Needs.{needs}
 use native.Mathlib.Omega.{arith}
 use Rattle.upper_items.proofs.upper_index.Statement.{statement}

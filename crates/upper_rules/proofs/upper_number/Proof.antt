@@ -5,7 +5,8 @@ use mathlib.Core.Path.{_≡_, sym, ap, _∙_}
 use borrow.Author.Tests.{not-true, not-false}
 use denote.Ref.{now}
 use Rattle.items.specs.Items.{content}
-use Rattle.upper_items.specs.Uppers.{itemAt, isLower, upperIndex}
+use Rattle.item_forms.specs.Forms.{isLower}
+use Rattle.upper_items.specs.Uppers.{itemAt, upperIndex}
 use Rattle.upper_rules.proofs.Passed.{not-lower, sound-upper, bad-upper}
 use borrow.Author.Needs.{needs}
 use Rattle.upper_rules.proofs.upper_number.Statement.{statement}

@@ -1,7 +1,7 @@
-use Rattle.upper_items.proofs.Lowers.{other-length, by-its-kind}
+use Rattle.items.proofs.Lowers.{other-length, by-its-kind}
 use borrow.Author.Needs.{needs}
-use Rattle.upper_items.proofs.is_lower.Statement.{statement}
-use Rattle.upper_items.proofs.is_lower.Tie as tie
+use Rattle.items.proofs.is_lower.Statement.{statement}
+use Rattle.items.proofs.is_lower.Tie as tie
 
 returns : tie.Need-returns
 returns c = other-length _ (c .if1 .taken)
