@@ -31,24 +31,38 @@ pub fn decode(p: &[u8]) -> Decoded
         return refused(ITEM_LENGTH);
     }
     let kind = p[0];
-    // The kinds with spans are answered apart, so that these aren't copied where the others meet.
+    // Each kind is answered apart, so that nothing is copied where they would meet.
+    if kind == 1 {
+        return site_item(p);
+    }
+    if kind == 2 {
+        return monopitch_item(p);
+    }
+    if kind == 3 {
+        return pitched_item(p);
+    }
     if kind == 4 {
         return multi_span_item(p);
+    }
+    if kind == 5 {
+        return cylindrical_item(p);
+    }
+    if kind == 6 {
+        return abutting_item(p);
+    }
+    if kind == 7 {
+        return projection_item(p);
+    }
+    if kind == 8 {
+        return map_site_item(p);
     }
     if kind == 9 {
         return drifted_item(p);
     }
-    match kind {
-        1 => site_item(p),
-        2 => monopitch_item(p),
-        3 => pitched_item(p),
-        5 => cylindrical_item(p),
-        6 => abutting_item(p),
-        7 => projection_item(p),
-        8 => map_site_item(p),
-        10 => lower_item(p),
-        _ => refused(UNKNOWN_KIND),
+    if kind == 10 {
+        return lower_item(p);
     }
+    refused(UNKNOWN_KIND)
 }
 
 // Whether an item's bytes are a lower roof's. It is told by the kind and the length, without decoding.

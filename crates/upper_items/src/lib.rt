@@ -6,7 +6,6 @@ ghost use lib.ListN.{length, drop, replicate};
 ghost use Rattle.circles.specs.Following.{upperIn};
 ghost use Rattle.items.specs.Items.{content};
 ghost use Rattle.pairs.specs.Pairs.{PartsIn};
-ghost use Rattle.item_forms.specs.Forms.{isLower};
 ghost use Rattle.upper_items.specs.Uppers.{upperIndex, upper, steppedIn, roofOrder};
 use items::is_lower;
 use order::list_by_index;

@@ -3,29 +3,20 @@ use Rattle.item_forms.specs.declared.Item.{Item}
 use Rattle.item_rules.specs.Figures.{shapeBy}
 use Rattle.sheet_figures.proofs.Sound.{no-own-shape}
 use borrow.Author.Needs.{needs}
-use native.Mathlib.Omega.{arith}
-use borrow.Author.Needs.{needs}
 use Rattle.sheet_figures.proofs.own_shape.Statement.{statement}
 use Rattle.sheet_figures.proofs.own_shape.Tie as tie
-use Rattle.sheet_figures.proofs.own_shape.Reads as reads
-use Rattle.sheet_figures.proofs.own_shape.Lts as lts
-use Rattle.sheet_figures.proofs.no_shape.Reads as no-shape-reads
 
--- src/lib.rt:97:24
 enum-known-item : tie.Need-enum-known-item
 enum-known-item c = search needs
 
--- src/lib.rt:98:9
 no-shape-requires : tie.Need-no-shape-requires
 no-shape-requires c κs = search needs
 
--- src/lib.rt:98:9
 returns : tie.Need-returns
 returns c above =
     let s = c .before .before in
     c .no-shape .ensures ∙ no-own-shape (s .args .item) above (s .pre) (c .before .match .keys2)
 
--- src/lib.rt:93:1
 returns-2 : tie.Need-returns-2
 returns-2 c above = ap (λ (x : Item). shapeBy x above) (sym (c .before .item .given .1))
 

@@ -10,17 +10,8 @@ use Rattle.items.proofs.Lowers.{lower-fields, lower-length}
 use Rattle.upper_items.specs.Uppers.{itemAt}
 use Rattle.sheet_figures.proofs.Sound.{item-of, below-asked, lower-shape-is}
 use borrow.Author.Needs.{needs}
-use native.Mathlib.Omega.{arith}
-use borrow.Author.Needs.{needs}
 use Rattle.sheet_figures.proofs.shape_in.Statement.{statement}
 use Rattle.sheet_figures.proofs.shape_in.Tie as tie
-use Rattle.sheet_figures.proofs.shape_in.Reads as reads
-use Rattle.sheet_figures.proofs.shape_in.Lts as lts
-use Rattle.items.proofs.is_lower.Reads as is-lower-reads
-use Rattle.pairs.proofs.part_at.Reads as part-at-reads
-use Rattle.roof_items.proofs.lower_at.Reads as lower-at-reads
-use Rattle.sheet_figures.proofs.own_shape.Reads as own-shape-reads
-use Rattle.sheet_figures.proofs.shape_below.Reads as shape-below-reads
 
 -- the part is a lower roof's, and has its fields, as the item does
 lowers : (c : tie.Then1) → isLower (content (now (c .before .before .part-at .result)) .item) ≡ true
@@ -32,37 +23,30 @@ told c =
     let e = ap (λ (p : List ℕ). content p .item) (c .before .before .before .part-at .ensures) in
     ap LowerItem (c .lower-at .ensures) ∙ (lower-fields _ (lowers (c .before)) ∙ e)
 
--- src/lib.rt:126:9
 part-at-requires : tie.Need-part-at-requires
 part-at-requires c κs = item-of _ _ (c .before .pre .0) .1 .part
 
--- src/lib.rt:127:8
 is-lower-requires : tie.Need-is-lower-requires
 is-lower-requires c κs = search needs
 
--- src/lib.rt:128:31
 lower-at-requires : tie.Need-lower-at-requires
 lower-at-requires c κs = lower-length _ (lowers c)
 
--- src/lib.rt:128:9
 shape-below-requires : tie.Need-shape-below-requires
 shape-below-requires c κs = below-asked _ _ _ (c .before .before .before .before .before .pre .0) (told c)
 
--- src/lib.rt:128:9
 returns : tie.Need-returns
-returns c = 
+returns c =
     let s = c .before .before .before .before .before .before in
     lower-shape-is (now (s .args .s)) _ (s .args .item) _ (told (c .before) ∙ sym (s .pre .1)) (c .shape-below .ensures)
 
--- src/lib.rt:130:5
 own-shape-requires : tie.Need-own-shape-requires
-own-shape-requires c κs = 
+own-shape-requires c κs =
     let l = c .before in
     let p = l .before in
     let e = ap (λ (q : List ℕ). isLower (content q .item)) (sym (p .part-at .ensures)) in
     ap isLower (p .before .before .pre .1) ∙ (e ∙ (sym (l .is-lower .ensures) ∙ c .if1 .left))
 
--- src/lib.rt:122:1
 returns-2 : tie.Need-returns-2
 returns-2 c = c .own-shape .ensures _
 
