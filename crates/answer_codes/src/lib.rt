@@ -3,12 +3,14 @@ ghost use mathlib.Core.Path.{_≡_};
 ghost use Prim.Native.Nat.{_≤_, min};
 ghost use Rattle.arrangement.specs.Arrangement.{madeMeans, madeCount};
 ghost use Rattle.local_forces.specs.Answers.{forceMeans};
+ghost use Rattle.map_sites.specs.Sites.{groundAnswer};
 ghost use Rattle.pairs.specs.Pairs.{verdictMeans, verdictCount};
 ghost use Rattle.reading.specs.Reading.{readingMeans};
 ghost use Rattle.answer_codes.specs.Codes.{refusalCode, verdictCode, answerCode, groundCode, forceCode};
 use arrangement::Made;
 use local_forces::LocalForce;
 use map_sites::GroundLoad;
+use map_sites::ground_load;
 use pairs::Verdict;
 use reading::Reading;
 
@@ -73,11 +75,18 @@ pub fn load(answer: Reading, item: usize) -> u32
 }
 
 // A ground load, or a refusal, which names no item.
-pub fn ground(answer: GroundLoad) -> u32
+fn ground(answer: GroundLoad) -> u32
     ensures { λ r. ⌜ r ≡ groundCode answer ⌝ }
 {
     match answer {
         GroundLoad::Load(load) => load,
         GroundLoad::Refused(number) => refusal(number, 0),
     }
+}
+
+// The ground load of a region, a zone and an altitude by the map, or its refusal.
+pub fn ground_at(region: u8, zone: u8, altitude: u16) -> u32
+    ensures { λ r. ⌜ r ≡ groundCode (groundAnswer region zone altitude) ⌝ }
+{
+    ground(ground_load(region, zone, altitude))
 }

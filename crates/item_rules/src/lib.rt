@@ -5,7 +5,7 @@ ghost use Rattle.item_rules.specs.Rules.{misplaced, ruleOf};
 use items::Item;
 use items::decode;
 use items::is_lower;
-use kind_rules::lower_refusal;
+use lower_rules::lower_refusal;
 use map_sites::site_data_refusal;
 use roof_items::lower_at;
 use roof_rules::shape_refusal;

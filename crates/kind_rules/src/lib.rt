@@ -1,7 +1,6 @@
-// The value rules on a roof, refusals 8, 9 and 10: one function a kind.
+// The value rules on a roof, refusals 8, 9 and 10: one function a kind. Those of lower roofs stand in `lower_rules`.
 ghost use mathlib.Core.Path.{_≡_};
-ghost use Rattle.figures.specs.RoofRules.{monopitchRefusal, pitchedRefusal, multiSpanRefusal, cylindricalRefusal, widestUpper, abuttingRefusal, projectionRefusal, lowerRefusal};
-use figures::LowerRoof;
+ghost use Rattle.figures.specs.RoofRules.{monopitchRefusal, pitchedRefusal, multiSpanRefusal, cylindricalRefusal, projectionRefusal};
 use figures::SPAN_NUMBERS;
 use figures::Slope;
 use figures::first;
@@ -58,26 +57,6 @@ pub fn cylindrical_refusal(rise: u32, span: u32) -> u8
     first(fields, refused_if((span as u64) < 2 * (rise as u64), RISE))
 }
 
-// The widest upper roof, of kind 10 and of kind 6.
-fn widest_upper(stepped: bool) -> u32
-    ensures { λ r. ⌜ r ≡ widestUpper stepped ⌝ }
-{
-    if stepped { 200_000 } else { 100_000 }
-}
-
-// Kinds 6 and 10.
-pub fn abutting_refusal(b1: u32, b2: u32, h: u32, slope: Slope, guard: u8, stepped: bool) -> u8
-    ensures { λ r. ⌜ r ≡ abuttingRefusal b1 b2 h slope guard stepped ⌝ }
-{
-    let widest = widest_upper(stepped);
-    let sound = ((1 <= b1) & (b1 <= widest))
-        & ((1 <= b2) & (b2 <= 100_000))
-        & ((1 <= h) & (h <= 30_000))
-        & slope_fields(slope)
-        & (guard <= 1);
-    refused_if(!sound, ROOF_FIELD)
-}
-
 // Kind 7.
 pub fn projection_refusal(h: u32, left: u32, right: u32) -> u8
     ensures { λ r. ⌜ r ≡ projectionRefusal h left right ⌝ }
@@ -85,15 +64,5 @@ pub fn projection_refusal(h: u32, left: u32, right: u32) -> u8
     let sound = ((1 <= h) & (h <= 30_000))
         & ((1 <= left) & (left <= 100_000))
         & ((1 <= right) & (right <= 100_000));
-    refused_if(!sound, ROOF_FIELD)
-}
-
-// An item of kind 10 by itself, whose other figures come from its upper item.
-pub fn lower_refusal(lower: LowerRoof) -> u8
-    ensures { λ r. ⌜ r ≡ lowerRefusal lower ⌝ }
-{
-    let sound = ((1 <= lower.b2) & (lower.b2 <= 100_000))
-        & ((1 <= lower.h) & (lower.h <= 30_000))
-        & (lower.side <= 1);
     refused_if(!sound, ROOF_FIELD)
 }

@@ -25,10 +25,11 @@ pub record Written (up : ℕ → ℕ) (n : ℕ) (old : List ℕ) (k : ℕ) (out 
   pub table : length marks ≡ 32
   pub marked : (i : ℕ) → markedIn marks i ≡ listed (firstRoofs up n k) i
 
-unmarked : (m i : ℕ) → getD (replicate m false) i false ≡ false
-unmarked zero i = refl
-unmarked (suc m) zero = refl
-unmarked (suc m) (suc i) = unmarked m i
+-- a table of one value has it at every place, and behind the last
+pub all-alike : {A : Type 0} (x : A) (m i : ℕ) → getD (replicate m x) i x ≡ x
+all-alike x zero i = refl
+all-alike x (suc m) zero = refl
+all-alike x (suc m) (suc i) = all-alike x m i
 
 -- where no roof is ready, none is added any more
 stays : (up : ℕ → ℕ) (n k d : ℕ) → nextRoof up n (listed (firstRoofs up n k)) ≡ 0 → firstRoofs up n (d + k) ≡ firstRoofs up n k
@@ -38,7 +39,7 @@ stays up n k (suc d) h = let e : suc d + k ≡ suc (d + k) = omega arith in rw (
 
 pub begin : (up : ℕ → ℕ) (n : ℕ) (old : List ℕ) → Written up n old 0 old (replicate 32 false)
 unfolding firstRoofs listed
-begin up n old = record { count = refl; bytes = refl; room = refl; table = refl; marked = unmarked 32 }
+begin up n old = record { count = refl; bytes = refl; room = refl; table = refl; marked = all-alike false 32 }
 
 -- x is the next roof, or 0
 module _ {up : ℕ → ℕ} {n : ℕ} {old : List ℕ} {k : ℕ} {out : List ℕ} {marks : List Bool} {x : ℕ}

@@ -7,12 +7,12 @@ use figures::SPAN_NUMBERS;
 use figures::Shape;
 use figures::Site;
 use figures::first;
-use kind_rules::abutting_refusal;
 use kind_rules::cylindrical_refusal;
 use kind_rules::monopitch_refusal;
 use kind_rules::multi_span_refusal;
 use kind_rules::pitched_refusal;
 use kind_rules::projection_refusal;
+use lower_rules::abutting_refusal;
 use site_rules::site_refusal;
 
 // The number of the first value rule that a shape with its slopes breaks, 0 where it breaks none.

@@ -1,10 +1,10 @@
 -- From a sheet to figures: the site of a sheet, and the roof of an item.
 use Prim.Native.Nat.{ℕ, zero, suc}
 use mathlib.Core.List.{List}
+use mathlib.Core.Path.{_≡_}
 use Rattle.figures.specs.declared.site.Site.{Site}
 use Rattle.figures.specs.declared.roof.Shape.{Shape}
 use Rattle.figures.specs.declared.roof.Roof.{Roof}
-use mathlib.Core.Path.{_≡_}
 use Rattle.items.specs.Items.{content}
 use Rattle.item_forms.specs.declared.Item.{Item}
 use Rattle.ceilings.specs.Ceilings.{terminals}

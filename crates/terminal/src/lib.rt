@@ -10,12 +10,11 @@ ghost use Rattle.sheet.specs.Sheet.{sheetVerdict};
 ghost use Rattle.answer_codes.specs.Codes.{verdictCode, groundCode};
 ghost use Rattle.map_sites.specs.Sites.{groundAnswer};
 ghost use Rattle.item_answers.specs.Calls.{makeCode, sliceAfter, loadCode, overhangCode, guardCode};
-use answer_codes::ground;
+use answer_codes::ground_at;
 use item_answers::guard_force_at;
 use item_answers::load_at;
 use item_answers::make_at;
 use item_answers::overhang_at;
-use map_sites::ground_load;
 use sheet::Caller;
 use sheet::verdict;
 use sheet_figures::find;
@@ -86,5 +85,5 @@ pub extern "C" fn snow_list(sheet: &[u8], out: &mut [u8]) -> usize
 pub extern "C" fn snow_ground_load(region: u8, zone: u8, altitude: u16) -> u32
     ensures { λ r. ⌜ r ≡ groundCode (groundAnswer region zone altitude) ⌝ }
 {
-    ground(ground_load(region, zone, altitude))
+    ground_at(region, zone, altitude)
 }

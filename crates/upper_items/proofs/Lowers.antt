@@ -20,6 +20,7 @@ use Rattle.circles.specs.Following.{upperIn}
 use Rattle.figures.proofs.Tests.{told, clash, or-right}
 use Rattle.order.specs.Order.{order, upTo}
 use Rattle.order.proofs.Listing.{in-turn, upto-length}
+use Rattle.order.proofs.Writing.{all-alike}
 use Rattle.item_forms.specs.Forms.{isLower}
 use Rattle.upper_items.specs.Uppers.{itemAt, upperIndex, upper, steppedIn, roofOrder}
 
@@ -56,11 +57,6 @@ module _ (s : List ℕ) where
   unfolding upper
   none-above n e i h = rw (lt-ltb i n h) (sym (no-upper (itemAt s i) (none-stepped n i e h)))
 
-zeros : (m i : ℕ) → _≡_ {A = ℕ} (getD (replicate m 0) i 0) 0
-zeros zero i = refl
-zeros (suc m) zero = refl
-zeros (suc m) (suc i) = zeros m i
-
 -- the upper items of the first i items are in the table
 pub record Filled (s : List ℕ) (i : ℕ) (table : List ℕ) : Type 0 where
   pub size : length table ≡ 32
@@ -68,7 +64,7 @@ pub record Filled (s : List ℕ) (i : ℕ) (table : List ℕ) : Type 0 where
 
 pub filled-none : (s : List ℕ) → Filled s 0 (replicate 32 0)
 unfolding upper
-filled-none s = record { size = refl; entries = fun-ext (λ i. rw (le-ltb i 0 (omega arith)) (zeros 32 i)) }
+filled-none s = record { size = refl; entries = fun-ext (λ i. rw (le-ltb i 0 (omega arith)) (all-alike {A = ℕ} 0 32 i)) }
 
 pub filled-turn : {s : List ℕ} {i : ℕ} {table : List ℕ} {x : ℕ} → Filled s i table → i < 32 → x ≡ upperIndex (itemAt s i) → Filled s (i + 1) (set table i x)
 unfolding upper

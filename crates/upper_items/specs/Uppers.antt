@@ -1,5 +1,5 @@
 -- The upper items of a sheet, and the order in which its roofs are listed: document 02, A7.
-use Prim.Native.Nat.{ℕ, zero, suc, _-_}
+use Prim.Native.Nat.{ℕ, zero, suc}
 use mathlib.Core.Bool.{Bool, false, cond, _||_}
 use mathlib.Core.List.{List}
 use lib.Dec.{ltb}

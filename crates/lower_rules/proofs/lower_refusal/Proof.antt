@@ -1,6 +1,6 @@
 use borrow.Author.Needs.{needs}
-use Rattle.kind_rules.proofs.lower_refusal.Statement.{statement}
-use Rattle.kind_rules.proofs.lower_refusal.Tie as tie
+use Rattle.lower_rules.proofs.lower_refusal.Statement.{statement}
+use Rattle.lower_rules.proofs.lower_refusal.Tie as tie
 
 refused-if-requires : tie.Need-refused-if-requires
 refused-if-requires c κs = search needs

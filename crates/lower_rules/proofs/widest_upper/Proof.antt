@@ -1,5 +1,5 @@
-use Rattle.kind_rules.proofs.widest_upper.Statement.{statement}
-use Rattle.kind_rules.proofs.widest_upper.Tie as tie
+use Rattle.lower_rules.proofs.widest_upper.Statement.{statement}
+use Rattle.lower_rules.proofs.widest_upper.Tie as tie
 
 returns : tie.Need-returns
 returns c = rw (c .if1 .taken)

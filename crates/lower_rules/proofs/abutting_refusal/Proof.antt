@@ -1,6 +1,6 @@
 use borrow.Author.Needs.{needs}
-use Rattle.kind_rules.proofs.abutting_refusal.Statement.{statement}
-use Rattle.kind_rules.proofs.abutting_refusal.Tie as tie
+use Rattle.lower_rules.proofs.abutting_refusal.Statement.{statement}
+use Rattle.lower_rules.proofs.abutting_refusal.Tie as tie
 
 widest-upper-requires : tie.Need-widest-upper-requires
 widest-upper-requires c κs = search needs
