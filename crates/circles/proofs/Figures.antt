@@ -8,14 +8,14 @@ use Rattle.circles.specs.Following.{upperIn, meets, comesBack}
 abbrev backs : List ℕ → List Bool
 backs table = comesBack (upperIn table) 4 1 ∷ comesBack (upperIn table) 4 2 ∷ comesBack (upperIn table) 4 3 ∷ []
 
-led-into : backs (0 ∷ 2 ∷ 3 ∷ 2 ∷ []) ≡ false ∷ true ∷ true ∷ []
+pub led-into : backs (0 ∷ 2 ∷ 3 ∷ 2 ∷ []) ≡ false ∷ true ∷ true ∷ []
 unfolding meets comesBack
 led-into = refl
 
-under-itself : backs (0 ∷ 0 ∷ 2 ∷ 0 ∷ []) ≡ false ∷ true ∷ false ∷ []
+pub under-itself : backs (0 ∷ 0 ∷ 2 ∷ 0 ∷ []) ≡ false ∷ true ∷ false ∷ []
 unfolding meets comesBack
 under-itself = refl
 
-three : backs (0 ∷ 3 ∷ 1 ∷ 2 ∷ []) ≡ true ∷ true ∷ true ∷ []
+pub three : backs (0 ∷ 3 ∷ 1 ∷ 2 ∷ []) ≡ true ∷ true ∷ true ∷ []
 unfolding meets comesBack
 three = refl

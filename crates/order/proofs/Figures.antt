@@ -4,10 +4,10 @@ use mathlib.Core.List.{[], _∷_}
 use Rattle.circles.specs.Following.{upperIn, listed}
 use Rattle.order.specs.Order.{lowest, ready, nextRoof, added, firstRoofs, order}
 
-stepped : order (upperIn (0 ∷ 3 ∷ 0 ∷ 2 ∷ [])) 4 ≡ 2 ∷ 3 ∷ 1 ∷ []
+pub stepped : order (upperIn (0 ∷ 3 ∷ 0 ∷ 2 ∷ [])) 4 ≡ 2 ∷ 3 ∷ 1 ∷ []
 unfolding lowest listed ready nextRoof added firstRoofs order
 stepped = refl
 
-both-under : order (upperIn (0 ∷ 3 ∷ 3 ∷ 0 ∷ 0 ∷ [])) 5 ≡ 3 ∷ 1 ∷ 2 ∷ 4 ∷ []
+pub both-under : order (upperIn (0 ∷ 3 ∷ 3 ∷ 0 ∷ 0 ∷ [])) 5 ≡ 3 ∷ 1 ∷ 2 ∷ 4 ∷ []
 unfolding lowest listed ready nextRoof added firstRoofs order
 both-under = refl
