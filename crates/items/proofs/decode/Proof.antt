@@ -89,10 +89,19 @@ refused-requires-2 c κs = search needs
 
 returns-12 : tie.Need-returns-12
 returns-12 c =
-    let u =
-    unknown _ _ (c .before .before .before .before .before .before .before .before .before .before .if2 .left) (c .before .before .before .before .before .before .before .before .before .if3 .left) (c .before .before .before .before .before .before .before .before .if4 .left) (c .before .before .before .before .before .before .before .if5 .left) (c .before .before .before .before .before .before .if6 .left)
-    (c .before .before .before .before .before .if7 .left) (c .before .before .before .before .if8 .left) (c .before .before .before .if9 .left) (c .before .before .if10 .left) (c .before .if11 .left) in
-    c .refused2 .ensures ∙ (u ∙ of-kind _ (c .before .before .before .before .before .before .before .before .before .before .before .before .if1 .left) _ refl)
+    let ten = c .before in
+    let nine = ten .before in
+    let eight = nine .before in
+    let seven = eight .before in
+    let six = seven .before in
+    let five = six .before in
+    let four = five .before in
+    let three = four .before in
+    let two = three .before in
+    let one = two .before in
+    let u = unknown _ _ (one .if2 .left) (two .if3 .left) (three .if4 .left) (four .if5 .left) (five .if6 .left)
+    (six .if7 .left) (seven .if8 .left) (eight .if9 .left) (nine .if10 .left) (ten .if11 .left) in
+    c .refused2 .ensures ∙ (u ∙ of-kind _ (one .before .before .if1 .left) _ refl)
 
 pub decode-spec : {M : Type 1} → statement M
 decode-spec =
