@@ -2,7 +2,7 @@
 """Writes the sample sheets beside this file. Listings are not computed here.
 
 Pitches are given in degrees, lengths in mm, the ground load in N/m2,
-Ce, Ct and Cesl in hundredths, the altitude in m.
+Ce, Ct and Cesl in hundredths, the altitude in m. A site with a day is dated.
 """
 
 import pathlib
@@ -13,13 +13,18 @@ def tenths(pitch):
     return round(10 * pitch)
 
 
-def site(ground, ce=100, ct=100, cesl=200, situation=0, altitude=300):
-    return struct.pack("<BIHHHBH", 1, ground, ce, ct, cesl, situation, altitude)
+def job_day(day):
+    """The two further bytes of a dated site."""
+    return b"" if day is None else struct.pack("<H", day)
 
 
-def map_site(region, zone, ce=100, ct=100, cesl=200, situation=0, altitude=300):
+def site(ground, ce=100, ct=100, cesl=200, situation=0, altitude=300, day=None):
+    return struct.pack("<BIHHHBH", 1, ground, ce, ct, cesl, situation, altitude) + job_day(day)
+
+
+def map_site(region, zone, ce=100, ct=100, cesl=200, situation=0, altitude=300, day=None):
     """A site without a ground load: region and zone of Table C.1, 1 to 8 and 1 to 5."""
-    return struct.pack("<BBBHHHBH", 8, region, zone, ce, ct, cesl, situation, altitude)
+    return struct.pack("<BBBHHHBH", 8, region, zone, ce, ct, cesl, situation, altitude) + job_day(day)
 
 
 def monopitch(pitch, width, guard=0):
@@ -195,6 +200,9 @@ SHEETS = {
         stepped(6_000, 3_000, 2, LEFT),
         HALL,
     ),
+    "refused_day": sheet(site(1_500, day=9_132), HALL),
+    "refused_map_day": sheet(map_site(1, 2, altitude=500, day=9_132), HALL),
+    "refused_site_byte": sheet(site(1_500) + b"\x00", HALL),
 }
 
 for name, content in SHEETS.items():

@@ -82,7 +82,7 @@ impl<L: Load> Arrangement<L> {
             Roof::Pitched(slopes) => pitched(slopes, shape, fall),
             Roof::MultiSpan(roof) => spans(roof.slopes(), shape, fall),
             Roof::Drift(roof) => spans(roof.slopes(), shape, fall),
-            Roof::Cylindrical { rise, span } => cylindrical(*rise, *span, shape, fall),
+            Roof::Cylindrical { rise, span } => cylindrical(site, [*rise, *span], shape, fall),
             Roof::Lower(roof) => lower(site, roof, shape, fall),
             Roof::Projection {
                 height,
@@ -90,7 +90,8 @@ impl<L: Load> Arrangement<L> {
                 right,
             } => {
                 let peak = fall.load(loads::mu_projection(*height, site));
-                projection(loads::drift_length(*height), *left, *right, peak, fall)
+                let drift = loads::drift_length(*height, loads::PROJECTION_DRIFT);
+                projection(drift, *left, *right, peak, fall)
             }
         }
     }
@@ -284,7 +285,8 @@ fn drift<L: Load>(roof: &DriftRoof, number: usize, site: &Site) -> Arrangement<L
 }
 
 /// Even snow, or two triangles with their peaks in the middle of each half (5.3.5).
-fn cylindrical<L: Load>(rise: u32, span: u32, shape: u8, fall: Fall) -> Arrangement<L> {
+fn cylindrical<L: Load>(site: &Site, figures: [u32; 2], shape: u8, fall: Fall) -> Arrangement<L> {
+    let [rise, span] = figures;
     let mut made = Arrangement::over(span);
     let loaded = loaded_width(rise, span);
     // A quarter of the loaded width in mm is as many quarter millimetres as ls has mm.
@@ -296,7 +298,7 @@ fn cylindrical<L: Load>(rise: u32, span: u32, shape: u8, fall: Fall) -> Arrangem
     if shape == 1 {
         made.even(start, end, fall.load(Shape::EVEN));
     } else {
-        let full = loads::mu_arch(rise, span);
+        let full = loads::mu_arch(rise, span, &site.national);
         let (left, right) = (fall.load(full.half()), fall.load(full));
         let middle = start + 2 * quarter;
         made.ramp(start, start + quarter, none, left);
@@ -328,9 +330,10 @@ fn lower<L: Load>(site: &Site, roof: &LowerRoof, shape: u8, fall: Fall) -> Arran
         made.even(0, made.end, even);
         return made;
     }
-    let slide: L = fall.load(loads::mu_slide(roof));
+    let drift = loads::drift_length(roof.step, site.national.drift);
+    let slide: L = fall.load(loads::mu_slide(roof, drift));
     let wall = slide + fall.load(loads::mu_wind(roof, site));
-    let drift = quarters(loads::drift_length(roof.step));
+    let drift = quarters(drift);
     made.ramp(0, drift, wall, even);
     made.even(drift, made.end, even);
     made

@@ -1,9 +1,11 @@
 //! What a returned load is held against besides: the load with parts in whole N/m², as it was
-//! before request A4, and the exact rule.
+//! before request A4, and the exact rule, both under the set in use.
 
 use second::arrangement::Arrangement;
 use second::calls;
 use second::loads::{Exact, Whole};
+
+use crate::check::Lent;
 
 /// A load that was returned and agreed on.
 #[derive(Debug)]
@@ -26,8 +28,8 @@ pub struct Before {
 
 impl Before {
     /// Those of an arrangement that is made.
-    pub fn of(sheet: &[u8], item: usize, code: u8) -> Option<Self> {
-        let (site, roof) = calls::ask(sheet, item).ok()?;
+    pub fn of(lent: Lent, item: usize, code: u8) -> Option<Self> {
+        let (site, roof) = calls::ask(lent.store, lent.sheet, item).ok()?;
         let roof = roof?;
         Some(Self {
             item,

@@ -1,4 +1,4 @@
-//! The eight calls with the same answers as the C calls of the library.
+//! The nine calls with the same answers as the C calls of the library.
 
 use crate::arrangement::Arrangement;
 use crate::forces;
@@ -7,6 +7,7 @@ use crate::listing;
 use crate::loads::Tenths;
 use crate::sheet::{number, Ceiling, Item, Refusal, Roof, Site, DESK, TERMINALS};
 use crate::steps::Steps;
+use crate::store;
 
 /// A refusal is this plus 65,536 × number plus the item; an index above 65,535 shows as 65,535.
 pub const REFUSED: u32 = 0x8000_0000;
@@ -19,44 +20,49 @@ pub const LIST_ROOM: usize = listing::ROOM;
 pub type Asked = (Site, Option<Roof>);
 
 /// The count of a sheet's items, or a refusal.
-pub fn verdict(sheet: &[u8]) -> u32 {
-    answer(count(sheet, TERMINALS))
+pub fn verdict(store: &[u32], sheet: &[u8]) -> u32 {
+    answer(count(store, sheet, TERMINALS))
 }
 
 /// The same, as the quote desk reads it.
-pub fn desk_verdict(sheet: &[u8]) -> u32 {
-    answer(count(sheet, DESK))
+pub fn desk_verdict(store: &[u32], sheet: &[u8]) -> u32 {
+    answer(count(store, sheet, DESK))
 }
 
 /// Writes an arrangement's segments, four numbers each; their count, or a refusal.
-pub fn make(sheet: &[u8], item: usize, code: u8, out: &mut [u32]) -> u32 {
-    answer(try_make(sheet, item, code, out))
+pub fn make(store: &[u32], sheet: &[u8], item: usize, code: u8, out: &mut [u32]) -> u32 {
+    answer(try_make(store, sheet, item, code, out))
 }
 
 /// The load at a station, or a refusal.
-pub fn load(sheet: &[u8], item: usize, code: u8, station: u32) -> u32 {
-    answer(try_load(sheet, item, code, station))
+pub fn load(store: &[u32], sheet: &[u8], item: usize, code: u8, station: u32) -> u32 {
+    answer(try_load(store, sheet, item, code, station))
 }
 
 /// The overhang at the eave of a slope, `NONE`, or a refusal.
-pub fn overhang(sheet: &[u8], item: usize, slope: u8) -> u32 {
-    answer(force(sheet, item, slope, forces::overhang))
+pub fn overhang(store: &[u32], sheet: &[u8], item: usize, slope: u8) -> u32 {
+    answer(force(store, sheet, item, slope, forces::overhang))
 }
 
 /// The force at the guard of a slope, `NONE`, or a refusal.
-pub fn guard_force(sheet: &[u8], item: usize, slope: u8) -> u32 {
-    answer(force(sheet, item, slope, forces::guard_force))
+pub fn guard_force(store: &[u32], sheet: &[u8], item: usize, slope: u8) -> u32 {
+    answer(force(store, sheet, item, slope, forces::guard_force))
 }
 
 /// Writes the listing at the front of `out`; its bytes. Too little room gives 0.
-pub fn list(sheet: &[u8], out: &mut [u8]) -> usize {
+pub fn list(store: &[u32], sheet: &[u8], out: &mut [u8]) -> usize {
     if out.len() < LIST_ROOM {
         return 0;
     }
     let mut text = Vec::new();
-    listing::list(sheet, &mut text);
+    listing::list(store, sheet, &mut text);
     out[..text.len()].copy_from_slice(&text);
     text.len()
+}
+
+/// Puts a set behind the last one of a store; the new count, or a refusal, which alters nothing.
+pub fn add_set(store: &mut [u32], set: &[u32]) -> u32 {
+    answer(store::add(store, set))
 }
 
 /// The ground load of a place on the map, or a refusal, which names item 0.
@@ -77,16 +83,16 @@ fn answer(result: Result<u32, Refusal>) -> u32 {
     })
 }
 
-fn count(sheet: &[u8], ceiling: Ceiling) -> Result<u32, Refusal> {
-    let steps = Steps::of(sheet, ceiling, |_, _| ())?;
+fn count(store: &[u32], sheet: &[u8], ceiling: Ceiling) -> Result<u32, Refusal> {
+    let steps = Steps::of(store, sheet, ceiling, |_, _| ())?;
     Ok(steps.count() as u32)
 }
 
-/// The figures of an item. Every rule on the sheet comes before the index asked for.
-pub fn ask(sheet: &[u8], index: usize) -> Result<Asked, Refusal> {
+/// The figures of an item. Every rule on the store and the sheet comes before the index asked for.
+pub fn ask(store: &[u32], sheet: &[u8], index: usize) -> Result<Asked, Refusal> {
     let mut site = None;
     let mut wanted = None;
-    let steps = Steps::of(sheet, TERMINALS, |place, item| {
+    let steps = Steps::of(store, sheet, TERMINALS, |place, item| {
         if let Item::Site(found) = item {
             site = Some(*found);
         }
@@ -98,14 +104,25 @@ pub fn ask(sheet: &[u8], index: usize) -> Result<Asked, Refusal> {
     Ok((site.expect("the first item is a site"), steps.roof(&wanted)))
 }
 
-fn arrangement(sheet: &[u8], item: usize, code: u8) -> Result<Arrangement<Tenths>, Refusal> {
-    let (site, roof) = ask(sheet, item)?;
+fn arrangement(
+    store: &[u32],
+    sheet: &[u8],
+    item: usize,
+    code: u8,
+) -> Result<Arrangement<Tenths>, Refusal> {
+    let (site, roof) = ask(store, sheet, item)?;
     roof.and_then(|roof| Arrangement::of(&site, &roof, code))
         .ok_or(Refusal::new(number::NOT_MADE, item))
 }
 
-fn try_make(sheet: &[u8], item: usize, code: u8, out: &mut [u32]) -> Result<u32, Refusal> {
-    let made = arrangement(sheet, item, code)?;
+fn try_make(
+    store: &[u32],
+    sheet: &[u8],
+    item: usize,
+    code: u8,
+    out: &mut [u32],
+) -> Result<u32, Refusal> {
+    let made = arrangement(store, sheet, item, code)?;
     let stretches = made.stretches();
     let room = out
         .get_mut(..4 * stretches.len())
@@ -116,19 +133,26 @@ fn try_make(sheet: &[u8], item: usize, code: u8, out: &mut [u32]) -> Result<u32,
     Ok(stretches.len() as u32)
 }
 
-fn try_load(sheet: &[u8], item: usize, code: u8, station: u32) -> Result<u32, Refusal> {
-    arrangement(sheet, item, code)?
+fn try_load(
+    store: &[u32],
+    sheet: &[u8],
+    item: usize,
+    code: u8,
+    station: u32,
+) -> Result<u32, Refusal> {
+    arrangement(store, sheet, item, code)?
         .reading(station)
         .ok_or(Refusal::new(number::PAST_END, item))
 }
 
 fn force(
+    store: &[u32],
     sheet: &[u8],
     item: usize,
     slope: u8,
     rule: fn(&Site, &Roof, u8) -> Option<u32>,
 ) -> Result<u32, Refusal> {
-    let (site, roof) = ask(sheet, item)?;
+    let (site, roof) = ask(store, sheet, item)?;
     let force = roof.and_then(|roof| rule(&site, &roof, slope));
     Ok(force.unwrap_or(NONE))
 }
@@ -137,6 +161,7 @@ fn force(
 mod tests {
     use super::*;
     use crate::sheets::{with_site, words};
+    use crate::store::EMPTY;
 
     /// A site alone.
     const SHEET: [u8; 20] = [
@@ -156,18 +181,22 @@ mod tests {
             (usize::MAX, 0x800C_FFFF),
         ];
         for (index, code) in codes {
-            assert_eq!(load(&SHEET, index, 1, 0), code, "index {index}");
-            assert_eq!(make(&SHEET, index, 1, &mut []), code, "index {index}");
-            assert_eq!(overhang(&SHEET, index, 1), code, "index {index}");
-            assert_eq!(guard_force(&SHEET, index, 1), code, "index {index}");
+            assert_eq!(load(&EMPTY, &SHEET, index, 1, 0), code, "index {index}");
+            assert_eq!(
+                make(&EMPTY, &SHEET, index, 1, &mut []),
+                code,
+                "index {index}"
+            );
+            assert_eq!(overhang(&EMPTY, &SHEET, index, 1), code, "index {index}");
+            assert_eq!(guard_force(&EMPTY, &SHEET, index, 1), code, "index {index}");
         }
     }
 
     #[test]
     fn a_refusal_has_its_number_above_the_item() {
-        assert_eq!(verdict(&SHEET), 1);
-        assert_eq!(verdict(&[]), 0x8001_0000);
-        assert_eq!(load(&SHEET, 0, 1, 0), 0x800D_0000);
+        assert_eq!(verdict(&EMPTY, &SHEET), 1);
+        assert_eq!(verdict(&EMPTY, &[]), 0x8001_0000);
+        assert_eq!(load(&EMPTY, &SHEET, 0, 1, 0), 0x800D_0000);
         assert_eq!(refusal_parts(0x800C_FFFE), (12, 65_534));
     }
 
@@ -184,20 +213,23 @@ mod tests {
         for roofs in 0..32 {
             let sheet = with_roofs(roofs, 0);
             let count = 1 + roofs as u32;
-            assert_eq!(verdict(&sheet), count);
+            assert_eq!(verdict(&EMPTY, &sheet), count);
             let desk = if count <= 8 { count } else { 0x8001_0000 };
-            assert_eq!(desk_verdict(&sheet), desk);
+            assert_eq!(desk_verdict(&EMPTY, &sheet), desk);
         }
         let bytes = with_roofs(7, 0).len();
-        assert_eq!(desk_verdict(&with_roofs(7, 2_047 - bytes)), 8);
-        assert_eq!(desk_verdict(&with_roofs(7, 2_048 - bytes)), 8);
-        assert_eq!(desk_verdict(&with_roofs(7, 2_049 - bytes)), 0x8001_0000);
-        assert_eq!(verdict(&with_roofs(7, 2_049 - bytes)), 8);
+        assert_eq!(desk_verdict(&EMPTY, &with_roofs(7, 2_047 - bytes)), 8);
+        assert_eq!(desk_verdict(&EMPTY, &with_roofs(7, 2_048 - bytes)), 8);
+        assert_eq!(
+            desk_verdict(&EMPTY, &with_roofs(7, 2_049 - bytes)),
+            0x8001_0000
+        );
+        assert_eq!(verdict(&EMPTY, &with_roofs(7, 2_049 - bytes)), 8);
         let mut overlapping = with_roofs(8, 0);
         overlapping[6] = 0;
-        assert_eq!(verdict(&overlapping), 0x8002_0001);
-        assert_eq!(desk_verdict(&overlapping), 0x8001_0000);
-        assert_eq!(desk_verdict(&[]), 0x8001_0000);
+        assert_eq!(verdict(&EMPTY, &overlapping), 0x8002_0001);
+        assert_eq!(desk_verdict(&EMPTY, &overlapping), 0x8001_0000);
+        assert_eq!(desk_verdict(&EMPTY, &[]), 0x8001_0000);
     }
 
     /// A map site alone: Alpine Region, zone 2, 500 m.
@@ -215,16 +247,16 @@ mod tests {
 
     #[test]
     fn a_map_site_stands_in_front() {
-        assert_eq!(verdict(&MAP_SHEET), 1);
+        assert_eq!(verdict(&EMPTY, &MAP_SHEET), 1);
         // Not of its length, as an item of kind 1, and behind another site.
-        assert_eq!(verdict(&changed(&[(4, 11)])), 0x8004_0000);
-        assert_eq!(verdict(&changed(&[(6, 1)])), 0x8004_0000);
+        assert_eq!(verdict(&EMPTY, &changed(&[(4, 11)])), 0x8004_0000);
+        assert_eq!(verdict(&EMPTY, &changed(&[(6, 1)])), 0x8004_0000);
         for (kind, number) in [(0, 3), (8, 5), (10, 4), (11, 3), (255, 3)] {
             let mut sheet = vec![2, 0, 10, 0, 12, 0, 22, 0, 12, 0];
             sheet.extend(&MAP_SHEET[6..]);
             sheet.extend(&MAP_SHEET[6..]);
             sheet[22] = kind;
-            assert_eq!(verdict(&sheet), REFUSED + 65_536 * number + 1);
+            assert_eq!(verdict(&EMPTY, &sheet), REFUSED + 65_536 * number + 1);
         }
     }
 
@@ -235,14 +267,14 @@ mod tests {
         let off = [(7, 8), (8, 0), (16, 0), (17, 0)];
         let high = [(7, 8), (8, 0), (16, 0xDD), (17, 5)];
         let open = [(9, 121), (8, 0), (16, 0xDD), (17, 5)];
-        let numbers = [open, high, off, light].map(|wrong| verdict(&changed(&wrong)));
+        let numbers = [open, high, off, light].map(|wrong| verdict(&EMPTY, &changed(&wrong)));
         assert_eq!(
             numbers,
             [0x8006_0000, 0x8007_0000, 0x800E_0000, 0x800F_0000]
         );
-        assert_eq!(verdict(&changed(&[(7, 0)])), 0x800E_0000);
-        assert_eq!(verdict(&changed(&[(7, 9)])), 0x800E_0000);
-        assert_eq!(verdict(&changed(&[(8, 6)])), 0x800E_0000);
+        assert_eq!(verdict(&EMPTY, &changed(&[(7, 0)])), 0x800E_0000);
+        assert_eq!(verdict(&EMPTY, &changed(&[(7, 9)])), 0x800E_0000);
+        assert_eq!(verdict(&EMPTY, &changed(&[(8, 6)])), 0x800E_0000);
     }
 
     /// Situations 0 to 3 on both kinds of sites, and the altitude refused behind the situation.
@@ -252,10 +284,13 @@ mod tests {
             let answer = if situation > 3 { 0x8006_0000 } else { 1 };
             let mut sheet = SHEET;
             sheet[17] = situation;
-            assert_eq!(verdict(&sheet), answer);
-            assert_eq!(verdict(&changed(&[(15, situation)])), answer);
+            assert_eq!(verdict(&EMPTY, &sheet), answer);
+            assert_eq!(verdict(&EMPTY, &changed(&[(15, situation)])), answer);
         }
-        assert_eq!(verdict(&changed(&[(15, 4), (17, 0xFF)])), 0x8006_0000);
+        assert_eq!(
+            verdict(&EMPTY, &changed(&[(15, 4), (17, 0xFF)])),
+            0x8006_0000
+        );
     }
 
     /// In the site's place a roof of kind 9 is refused by 5 where its length fits, else by 4.
@@ -265,7 +300,7 @@ mod tests {
         {
             let mut sheet = vec![1, 0, 6, 0, length, 0, 9, count];
             sheet.resize(6 + usize::from(length), 0);
-            assert_eq!(verdict(&sheet), REFUSED + 65_536 * number);
+            assert_eq!(verdict(&EMPTY, &sheet), REFUSED + 65_536 * number);
         }
     }
 

@@ -7,11 +7,12 @@ use std::path::PathBuf;
 
 use crate::calls;
 use crate::listing;
+use crate::store::EMPTY;
 
-const DEFAULT: &str = concat!(env!("CARGO_MANIFEST_DIR"), "/../crates/trials/data/A7.bin");
+const DEFAULT: &str = concat!(env!("CARGO_MANIFEST_DIR"), "/../crates/trials/data/A8.bin");
 const SAMPLES: &str = concat!(env!("CARGO_MANIFEST_DIR"), "/../samples");
 /// Records of the corpus.
-const RECORDS: usize = 317;
+const RECORDS: usize = 326;
 
 /// A sheet and the listing that it has to give.
 struct Record<'a> {
@@ -69,7 +70,7 @@ fn every_sample_agrees() {
 
 fn agrees(name: &str, record: &Record) {
     let mut text = Vec::new();
-    listing::list(record.sheet, &mut text);
+    listing::list(&EMPTY, record.sheet, &mut text);
     assert!(
         text == record.text,
         "{name}: expected\n{}got\n{}",
@@ -83,9 +84,12 @@ fn the_call_writes_at_the_front_alone() {
     let bytes = corpus();
     for record in records(&bytes) {
         let mut out = vec![0xA5; calls::LIST_ROOM];
-        assert_eq!(calls::list(record.sheet, &mut out), record.text.len());
+        assert_eq!(
+            calls::list(&EMPTY, record.sheet, &mut out),
+            record.text.len()
+        );
         assert_eq!(&out[..record.text.len()], record.text);
         assert!(out[record.text.len()..].iter().all(|&byte| byte == 0xA5));
-        assert_eq!(calls::list(record.sheet, &mut out[1..]), 0);
+        assert_eq!(calls::list(&EMPTY, record.sheet, &mut out[1..]), 0);
     }
 }

@@ -3,9 +3,8 @@
 use crate::draft;
 use crate::random::Random;
 
-/// A sheet with one to three damages. Some of them leave it sound.
-pub fn sheet(random: &mut Random) -> Vec<u8> {
-    let mut items = draft::items(random);
+/// A sheet of sound items with one to three damages. Some of them leave it sound.
+pub fn sheet(random: &mut Random, mut items: Vec<Vec<u8>>) -> Vec<u8> {
     let damages = 1 + [0, 0, 1, 2][random.below(4)];
     let on_bytes = (0..damages).filter(|_| random.once_in(3)).count();
     let target = random.below(items.len());
@@ -68,17 +67,19 @@ fn change_kind(random: &mut Random, item: &mut [u8]) {
 }
 
 fn change_length(random: &mut Random, item: &mut Vec<u8>) {
-    match random.below(9) {
+    match random.below(11) {
         0 => item.clear(),
         1 => item.truncate(1),
         2 => item.truncate(item.len().saturating_sub(1)),
         3 => item.push(0),
-        // The lengths of the two sites.
+        // The lengths of the two sites, without a day and with one.
         4 => item.resize(12, 0),
         5 => item.resize(14, 0),
-        // A span more, a valley more, or both.
-        6 => draft::noise(random, item, 12),
-        7 => draft::noise(random, item, 8),
+        6 => item.resize(16, 0),
+        // A day more, a span more, a valley more, or the last two.
+        7 => draft::noise(random, item, 2),
+        8 => draft::noise(random, item, 12),
+        9 => draft::noise(random, item, 8),
         _ => draft::noise(random, item, 20),
     }
 }

@@ -12,6 +12,8 @@ pub const BYTES: [usize; 3] = [2_047, 2_048, 2_049];
 const ROUNDS: usize = 100;
 /// The desk's answer to a sheet that is not for it: 1, item 0.
 const OUTSIDE: u32 = REFUSED + 65_536;
+/// Any reader's answer where the store is refused.
+const STORE_REFUSED: u32 = REFUSED + 65_536 * 18;
 
 /// The verdicts of a terminal and of the desk on the same sheet.
 #[derive(Debug)]
@@ -39,9 +41,9 @@ impl Read {
         self.items <= ITEMS[1] && self.bytes <= BYTES[1]
     }
 
-    /// Inside the ceiling the terminal's answer, outside of it the desk's own.
+    /// Inside the ceiling the terminal's answer, outside of it the desk's own. The store comes first.
     pub fn is_right(&self) -> bool {
-        let expected = if self.is_inside() {
+        let expected = if self.is_inside() || self.terminal == STORE_REFUSED {
             self.terminal
         } else {
             OUTSIDE

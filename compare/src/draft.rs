@@ -3,6 +3,7 @@
 //! Some map sites are too light or too heavy for their place; they are refused by 15.
 
 use crate::random::Random;
+use crate::stores::Set;
 
 pub const SITE: u8 = 1;
 pub const MONOPITCH: u8 = 2;
@@ -56,7 +57,7 @@ pub struct Field {
     pub edges: &'static [u32],
 }
 
-const fn field(at: usize, bytes: usize, low: u32, high: u32, edges: &'static [u32]) -> Field {
+pub const fn field(at: usize, bytes: usize, low: u32, high: u32, edges: &'static [u32]) -> Field {
     Field {
         at,
         bytes,
@@ -254,6 +255,27 @@ fn filled(random: &mut Random, mut item: Vec<u8>) -> Vec<u8> {
 pub fn site(random: &mut Random) -> Vec<u8> {
     let kind = if random.once_in(3) { MAP_SITE } else { SITE };
     item(random, kind)
+}
+
+/// A site of a kind whose ground load is in range wherever it stands.
+pub fn sound_site(random: &mut Random, kind: u8) -> Vec<u8> {
+    let mut item = item(random, kind);
+    if kind == MAP_SITE {
+        let region = random.pick(&[1, 3, 7]);
+        put(&mut item, REGION, region);
+    }
+    item
+}
+
+/// A site with its job day behind it.
+pub fn dated(site: &[u8], day: u32) -> Vec<u8> {
+    [site, &(day as u16).to_le_bytes()].concat()
+}
+
+/// The job day of a site, where it has one.
+pub fn day_of(site: &[u8]) -> Option<u32> {
+    let (rest, day) = site.split_last_chunk()?;
+    (rest.len() == blank(site[0]).len()).then_some(u16::from_le_bytes(*day).into())
 }
 
 /// Moves a map site to a region, a zone and an altitude.
@@ -573,6 +595,54 @@ pub fn cut(random: &mut Random, kind: u8) -> Vec<u8> {
         put(&mut item, *field, random.between(1, high));
     }
     item
+}
+
+/// A hall, and roofs of kinds 5, 6, 7 and 10, the last one under the hall, close to where the limits
+/// of a set decide.
+pub fn limited(random: &mut Random, set: &Set, ground_load: u32) -> Vec<Vec<u8>> {
+    let hall = item(random, PITCHED);
+    let arch = limited_arch(random, set[1]);
+    let mut lower = item(random, LOWER);
+    let upper_width = get(&lower, LOWER_FIELDS[0]);
+    limit_drift(random, &mut lower, upper_width, set, ground_load);
+    let mut stepped = under(random, 1);
+    limit_drift(random, &mut stepped, above(&hall, 0)[0], set, ground_load);
+    vec![hall, arch, lower, item(random, PROJECTION), stepped]
+}
+
+/// An arch with 0.2 + 10 × rise/span close to an upper value of μ3, where one has that.
+fn limited_arch(random: &mut Random, upper: u32) -> Vec<u8> {
+    let rise = draw(random, ARCH_FIELDS[0]);
+    let span = 1_000 * rise / upper.saturating_sub(20).max(1) + random.between(0, 2);
+    let span = span.saturating_sub(1).clamp(2, 30_000);
+    of_figures(CYLINDRICAL, &[rise.min(span / 2), span])
+}
+
+/// Gives a lower roof a step whose double is close to a limit of the drift length, or 2h/sk to one of
+/// μw, and a width close to the drift length, or (b1 + b2)/2h to a limit of μw.
+fn limit_drift(
+    random: &mut Random,
+    item: &mut [u8],
+    upper_width: u32,
+    set: &Set,
+    ground_load: u32,
+) {
+    let [_, _, low, high, short, long] = *set;
+    let (step, widths) = step_and_widths(item[0]);
+    let by_snow = [low, high].map(|limit| limit * ground_load / 200);
+    let steps = [short / 2, long / 2, by_snow[0], by_snow[1], get(item, step)];
+    let height = beside(random, &steps).clamp(step.low, step.high);
+    put(item, step, height);
+    let by_width = [low, high].map(|limit| (2 * height * limit / 100).saturating_sub(upper_width));
+    let drift = (2 * height).clamp(short, long);
+    let choices = [drift, by_width[0], by_width[1], get(item, widths[0])];
+    let width = beside(random, &choices).clamp(widths[0].low, widths[0].high);
+    put(item, widths[0], width);
+}
+
+/// One of some values, or the one before or behind it.
+fn beside(random: &mut Random, values: &[u32]) -> u32 {
+    (random.pick(values) + random.between(0, 2)).saturating_sub(1)
 }
 
 /// A roof of any kind, twice as often one with drifts.

@@ -3,6 +3,7 @@
 use second::calls::{self, LIST_ROOM};
 use second::forces;
 
+use crate::check::Lent;
 use crate::draft;
 use crate::fuzz::Fuzz;
 
@@ -24,8 +25,8 @@ pub struct Eave {
 }
 
 impl Eave {
-    pub fn of(sheet: &[u8], item: usize, slope: u8, force: u32) -> Option<Self> {
-        let (site, roof) = calls::ask(sheet, item).ok()?;
+    pub fn of(lent: Lent, item: usize, slope: u8, force: u32) -> Option<Self> {
+        let (site, roof) = calls::ask(lent.store, lent.sheet, item).ok()?;
         let roof = roof?;
         let side = forces::slope(&roof, slope)?;
         Some(Self {

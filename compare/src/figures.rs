@@ -4,9 +4,13 @@ use crate::arrangement::{codes, loaded_width, Arrangement};
 use crate::calls;
 use crate::forces;
 use crate::ground;
+use crate::listing;
 use crate::loads::{Exact, Tenths, Whole};
 use crate::sheet::{Roof, Site, Situation, Slope};
-use crate::sheets::{with_site, words};
+use crate::sheets::{
+    dated, sheet, store, with_site, words, MAP_SITE as MAP_ITEM, SITE as SITE_ITEM,
+};
+use crate::store::{Limits, National, EMPTY, RECOMMENDED};
 
 const SITE: Site = Site {
     ground_load: 1_000,
@@ -15,6 +19,7 @@ const SITE: Site = Site {
     exceptional: 200,
     situation: Situation::Normal,
     altitude: 500,
+    national: RECOMMENDED,
 };
 
 fn snow(ground_load: u32) -> Site {
@@ -40,7 +45,7 @@ fn segments(site: &Site, roof: &Roof, code: u8) -> Vec<[u32; 4]> {
 /// A roof from its bytes, by way of a sheet.
 fn roof(bytes: &[u8]) -> Result<Roof, u8> {
     let (_, roof) =
-        calls::ask(&with_site(&[bytes.to_vec()]), 1).map_err(|refusal| refusal.number)?;
+        calls::ask(&EMPTY, &with_site(&[bytes.to_vec()]), 1).map_err(|refusal| refusal.number)?;
     Ok(roof.expect("the second item is a roof"))
 }
 
@@ -340,6 +345,170 @@ fn lower_roof() {
     assert_eq!(short, [[0, 12_000, 2_167, 1_484]]);
     let low = segments(&SITE, &lower([10_000, 20_000, 300, 6_000], 100), 2);
     assert!(low.iter().all(|part| part[2..] == [800, 800]));
+}
+
+/// A site whose set in use has this upper value of μ3, range of μw and range of drift lengths.
+fn with_set(arch: u32, wind: [u32; 2], drift: [u32; 2]) -> Site {
+    let national = National {
+        arch,
+        wind: Limits::new(wind[0], wind[1]),
+        drift: Limits::new(drift[0], drift[1]),
+    };
+    Site { national, ..SITE }
+}
+
+/// μ3 is 2.2 at 4,000/20,000 and 5.2 on a half circle.
+#[test]
+fn an_arch_under_a_set() {
+    let peaks = |rise, arch| {
+        let site = with_set(arch, [1, 1], [1_000, 1_000]);
+        let span = 20_000;
+        let made = segments(&site, &Roof::Cylindrical { rise, span }, 2);
+        let [left, right] = [made[made.len() / 2 - 2], made[made.len() / 2]];
+        (left[3], right[3])
+    };
+    assert_eq!(peaks(4_000, 1), (5, 10));
+    assert_eq!(peaks(4_000, 150), (750, 1_500));
+    assert_eq!(peaks(4_000, 219), (1_095, 2_190));
+    assert_eq!(
+        [220, 221].map(|arch| peaks(4_000, arch)),
+        [(1_100, 2_200); 2]
+    );
+    assert_eq!(peaks(10_000, 519), (2_595, 5_190));
+    assert_eq!(peaks(10_000, 800), (2_600, 5_200));
+}
+
+/// 1.37 × 1,001 is 1,371.37, half of it 685.685.
+#[test]
+fn an_arch_is_rounded_up_under_a_set() {
+    let site = Site {
+        ground_load: 1_001,
+        ..with_set(137, [1, 800], [1_000, 30_000])
+    };
+    let arch = Roof::Cylindrical {
+        rise: 3_000,
+        span: 20_000,
+    };
+    let made = segments(&site, &arch, 2);
+    assert_eq!((made[0][3], made[2][3]), (686, 1_372));
+}
+
+/// (b1 + b2)/2h is 5 and 2h/sk is 6 in the first, 50 and 0.6 in the second.
+#[test]
+fn wind_under_a_set() {
+    let wall = |roof: &Roof, range| {
+        let site = with_set(200, range, [1_000, 30_000]);
+        segments(&site, roof, 2)[0][2]
+    };
+    let high = lower([10_000, 20_000, 3_000, 6_000], 100);
+    let ranges = [
+        [80, 400],
+        [80, 450],
+        [80, 800],
+        [550, 800],
+        [400, 400],
+        [1, 1],
+    ];
+    assert_eq!(
+        ranges.map(|range| wall(&high, range)),
+        [4_000, 4_500, 5_000, 5_500, 4_000, 10]
+    );
+    let low = lower([10_000, 20_000, 300, 6_000], 100);
+    let ranges = [[50, 800], [60, 800], [61, 800], [1, 59], [800, 800]];
+    assert_eq!(
+        ranges.map(|range| wall(&low, range)),
+        [600, 600, 610, 590, 8_000]
+    );
+}
+
+/// 2h is 6,000.
+#[test]
+fn a_drift_length_under_a_set() {
+    let ends = |drift| {
+        let site = with_set(200, [80, 400], drift);
+        let roof = lower([10_000, 20_000, 3_000, 6_000], 100);
+        let made = segments(&site, &roof, 2);
+        made.iter().map(|part| part[1]).collect::<Vec<_>>()
+    };
+    assert_eq!(ends([1_000, 30_000]), [24_000, 80_000]);
+    assert_eq!(ends([1_000, 5_999]), [23_996, 80_000]);
+    assert_eq!(ends([1_000, 1_000]), [4_000, 80_000]);
+    assert_eq!(ends([6_001, 6_001]), [24_004, 80_000]);
+    assert_eq!(ends([19_999, 30_000]), [79_996, 80_000]);
+    assert_eq!(ends([20_000, 30_000]), [80_000]);
+    assert_eq!(ends([30_000, 30_000]), [80_000]);
+}
+
+/// 0.8 × 6,000/ls slides down: 4.8, 0.8 and 0.16. A drift of 30,000 is cut at two thirds.
+#[test]
+fn sliding_snow_under_a_set() {
+    let first = |drift| {
+        let site = with_set(200, [80, 400], drift);
+        segments(&site, &lower([10_000, 20_000, 3_000, 6_000], 200), 2)[0]
+    };
+    assert_eq!(first([1_000, 1_000]), [0, 4_000, 8_800, 800]);
+    assert_eq!(first([1_000, 30_000]), [0, 24_000, 4_800, 800]);
+    assert_eq!(first([30_000, 30_000]), [0, 80_000, 4_160, 1_920]);
+}
+
+#[test]
+fn a_projection_keeps_its_limits() {
+    let projection = roof(&words(7, &[1_000, 9_000, 20_000])).unwrap();
+    let site = with_set(1, [1, 1], [1_000, 1_000]);
+    assert_eq!(
+        segments(&site, &projection, 2),
+        segments(&SITE, &projection, 2)
+    );
+}
+
+/// The listing of a hall, an arch, a lower roof, a projection and a stepped roof under the hall.
+fn listing_of(store: &[u32], site: Vec<u8>) -> String {
+    let mut low = words(6, &[10_000, 20_000, 3_000, 6_000]);
+    low.extend([200, 0, 0]);
+    let mut stepped = words(10, &[9_000, 4_000]);
+    stepped.extend([1, 1]);
+    let hall = [3, 200, 0, 144, 1, 0, 1, 40, 35, 0, 0, 112, 23, 0, 0].to_vec();
+    let arch = words(5, &[5_000, 12_000]);
+    let projection = words(7, &[1_000, 9_000, 20_000]);
+    let mut text = Vec::new();
+    let job = sheet(&[site, hall, arch, low, projection, stepped]);
+    listing::list(store, &job, &mut text);
+    String::from_utf8(text).unwrap()
+}
+
+/// The kinds whose lines differ between two listings with as many lines.
+fn changed_items(first: &str, second: &str) -> Vec<String> {
+    assert_eq!(first.lines().count(), second.lines().count());
+    let pairs = first.lines().zip(second.lines());
+    let differ = pairs.filter(|(left, right)| left != right);
+    let mut items: Vec<_> = differ
+        .map(|(line, _)| line.split(' ').next().unwrap().to_string())
+        .collect();
+    items.dedup();
+    items
+}
+
+/// The first set changes items 2, 3 and 5, which are of kinds 5, 6 and 10. The second has the
+/// recommended figures, and so has a job without a day.
+#[test]
+fn jobs_by_their_days() {
+    let sets = [
+        [1_000, 170, 100, 350, 6_500, 7_500],
+        [2_000, 200, 80, 400, 5_000, 15_000],
+    ];
+    for site in [&SITE_ITEM[..], &MAP_ITEM] {
+        let without = listing_of(&EMPTY, site.to_vec());
+        let store = store(&sets);
+        assert_eq!(listing_of(&store, site.to_vec()), without);
+        let on = |day| listing_of(&store, dated(site, day));
+        assert_eq!(on(999), "REFUSED 19 0\n");
+        for day in [1_000, 1_999] {
+            assert_eq!(changed_items(&on(day), &without), ["2", "3", "5"]);
+        }
+        for day in [2_000, 65_535] {
+            assert_eq!(on(day), without);
+        }
+    }
 }
 
 /// The loads of an item in tenths, in whole N/m², and how far the first lies above the exact rule.

@@ -4,10 +4,11 @@ use std::hint::black_box;
 
 use second::calls::LIST_ROOM;
 
-use crate::check::{Asked, Checker, MAX_LIST_ROOM};
+use crate::check::{Asked, Checker, Lent, MAX_LIST_ROOM};
 use crate::damage;
 use crate::draft;
 use crate::random::Random;
+use crate::stores;
 use crate::tally::{LENGTHS, MISSING};
 
 /// Items of one sheet that are asked about closely.
@@ -36,17 +37,34 @@ impl Fuzz {
         }
     }
 
-    /// Every second sheet is damaged.
+    /// Every second sheet is damaged, and one store in 16 is broken. Two sites in three are dated.
     pub fn run(&mut self, sheets: u64) {
         for number in 0..sheets {
+            let store = self.lend_any();
+            if self.random.once_in(16) {
+                let broken = stores::broken(&store);
+                let place = self.random.below(broken.len());
+                self.checker.lend(&broken[place]);
+            }
+            let mut items = draft::items(&mut self.random);
+            if !self.random.once_in(3) {
+                let day = stores::day(&mut self.random, &store);
+                items[0] = draft::dated(&items[0], day);
+            }
             let sheet = if number % 2 == 0 {
-                let items = draft::items(&mut self.random);
                 draft::sheet(&mut self.random, &items)
             } else {
-                damage::sheet(&mut self.random)
+                damage::sheet(&mut self.random, items)
             };
             self.ask_anywhere(&sheet);
         }
+    }
+
+    /// Lends a sound store.
+    pub fn lend_any(&mut self) -> Vec<u32> {
+        let store = stores::any_store(&mut self.random);
+        self.checker.lend(&store);
+        store
     }
 
     /// Every pitch under the heaviest snow, where each entry of a table shows in the forces.
@@ -102,19 +120,25 @@ impl Fuzz {
         }
     }
 
-    /// The sheet may start anywhere in memory, and no call may alter it.
+    /// The sheet may start anywhere in memory, and no call may alter it or the store.
     pub fn ask_anywhere(&mut self, sheet: &[u8]) {
+        let store = self.checker.store().to_vec();
         let shift = self.random.below(8);
         let mut shifted = vec![0; shift];
         shifted.extend_from_slice(sheet);
         self.ask(&shifted[shift..]);
         black_box(&mut shifted);
-        if shifted[shift..] != *sheet {
-            let describe = || "a call altered the sheet".to_string();
-            self.checker.tally.disagree(sheet, describe);
+        if shifted[shift..] != *sheet || self.checker.store() != store {
+            let lent = Lent {
+                store: &store,
+                sheet,
+            };
+            let describe = || "a call altered the sheet or the store".to_string();
+            self.checker.tally.disagree(lent, describe);
         }
     }
 
+    /// The verdict, and all calls on items of the sheet and on others.
     fn ask(&mut self, sheet: &[u8]) {
         let asked = self.checker.verdict(sheet);
         self.lists(sheet);
@@ -148,7 +172,7 @@ impl Fuzz {
     }
 
     /// All calls on the site, on an index that is not there, and on a refused sheet.
-    fn index_questions(&mut self, asked: Asked) {
+    pub fn index_questions(&mut self, asked: Asked) {
         let some = self.random.below(40);
         let missing = self.random.pick(&MISSING);
         let any = self.random.next() as usize >> self.random.below(64);

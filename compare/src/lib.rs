@@ -11,6 +11,7 @@ pub mod loads;
 pub mod reading;
 pub mod sheet;
 pub mod steps;
+pub mod store;
 
 #[cfg(test)]
 mod corpus;

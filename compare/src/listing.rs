@@ -15,12 +15,12 @@ const REFUSED: &[u8] = b"REFUSED";
 const OVERHANG: u32 = 21;
 const GUARD: u32 = 22;
 
-/// Appends the listing of a sheet, or the one line that refuses it. No line is written before
-/// every rule is checked.
-pub fn list(sheet: &[u8], out: &mut Vec<u8>) {
+/// Appends the listing of a sheet, or the one line that refuses it or the store. No line is written
+/// before every rule is checked.
+pub fn list(store: &[u32], sheet: &[u8], out: &mut Vec<u8>) {
     out.reserve(ROOM);
     let mut items = Vec::with_capacity(TERMINALS.items);
-    match Steps::of(sheet, TERMINALS, |_, item| items.push(*item)) {
+    match Steps::of(store, sheet, TERMINALS, |_, item| items.push(*item)) {
         Ok(steps) => accepted(&items, &steps, out),
         Err(refusal) => refused(refusal, out),
     }

@@ -3,6 +3,7 @@
 use std::ops::Add;
 
 use crate::sheet::{LowerRoof, Site, Slope, Valley, SLIDING_PITCH};
+use crate::store::{Limits, National};
 
 /// Denominator of the coefficients of Table 5.2 when the pitch is in tenths of a degree.
 const TABLE: u64 = 375;
@@ -12,6 +13,8 @@ const FLAT: u64 = 300;
 const MILLION: u64 = 1_000_000;
 /// 15.0 degrees, up to which no snow slides off the upper roof (5.3.6).
 const SLIDE_FROM: u16 = 150;
+/// Drift lengths at a projection in mm, whatever set is in use.
+pub const PROJECTION_DRIFT: Limits = Limits::new(5_000, 15_000);
 
 /// A shape coefficient μ.
 #[derive(Clone, Copy, Debug)]
@@ -30,6 +33,10 @@ impl Shape {
             numerator,
             denominator,
         }
+    }
+
+    fn hundredths(value: u32) -> Self {
+        Self::new(value.into(), 100)
     }
 
     pub fn half(self) -> Self {
@@ -73,15 +80,15 @@ pub fn mu_valley(left: Slope, right: Slope) -> Shape {
     Shape::new(2 * FLAT + sum.min(2 * FLAT), 2 * TABLE)
 }
 
-/// μ3 of a cylindrical roof (5.3.5): 0.2 + 10 × rise/span, at most 2.0.
-pub fn mu_arch(rise: u32, span: u32) -> Shape {
+/// μ3 of a cylindrical roof (5.3.5): 0.2 + 10 × rise/span, at most the upper value in use.
+pub fn mu_arch(rise: u32, span: u32, national: &National) -> Shape {
     let (rise, span) = (u64::from(rise), u64::from(span));
-    Shape::new(span + 50 * rise, 5 * span).at_most(Shape::new(2, 1))
+    Shape::new(span + 50 * rise, 5 * span).at_most(Shape::hundredths(national.arch))
 }
 
-/// Length of a drift in mm: twice the step, held to 5 m..15 m.
-pub fn drift_length(step: u32) -> u32 {
-    (2 * step).clamp(5_000, 15_000)
+/// Length of a drift in mm: twice the step, held to a range.
+pub fn drift_length(step: u32, range: Limits) -> u32 {
+    (2 * step).clamp(range.low, range.high)
 }
 
 /// γh/sk with γ = 2 kN/m³, in mm and N/m².
@@ -89,24 +96,24 @@ fn mu_full_step(step: u32, site: &Site) -> Shape {
     Shape::new(2 * u64::from(step), u64::from(site.ground_load))
 }
 
-/// μw of a lower roof. The limits above come first, then 0.8 below.
+/// μw of a lower roof. The limits above come first, then the low end of the range in use.
 pub fn mu_wind(roof: &LowerRoof, site: &Site) -> Shape {
     let widths = u64::from(roof.upper_width) + u64::from(roof.lower_width);
     Shape::new(widths, 2 * u64::from(roof.step))
         .at_most(mu_full_step(roof.step, site))
-        .at_most(Shape::new(4, 1))
-        .at_least(Shape::EVEN)
+        .at_most(Shape::hundredths(site.national.wind.high))
+        .at_least(Shape::hundredths(site.national.wind.low))
 }
 
-/// μs of a lower roof: half of the upper slope's snow, as a triangle along the drift.
-pub fn mu_slide(roof: &LowerRoof) -> Shape {
+/// μs of a lower roof: half of the upper slope's snow, as a triangle along a drift of this length.
+pub fn mu_slide(roof: &LowerRoof, drift: u32) -> Shape {
     if roof.upper_slope.pitch <= SLIDE_FROM {
         return Shape::ZERO;
     }
     let upper = mu1(roof.upper_slope);
     Shape::new(
         upper.numerator * u64::from(roof.upper_slope.width),
-        upper.denominator * u64::from(drift_length(roof.step)),
+        upper.denominator * u64::from(drift),
     )
 }
 
@@ -187,7 +194,7 @@ impl<const PARTS: u64> Load for Rounded<PARTS> {
     fn of(mu: Shape, fall: Fall) -> Self {
         let scale = fall.scale / PARTS;
         let load = (mu.numerator * fall.weight).div_ceil(mu.denominator * scale);
-        Self(load as u32) // below 2,000,000 N/m² for every accepted roof
+        Self(load as u32) // at most 7,200,000 N/m² for every accepted roof
     }
 }
 

@@ -3,6 +3,7 @@
 use std::ops::RangeInclusive;
 
 use crate::ground;
+use crate::store::{National, Store, RECOMMENDED};
 
 /// The most items and bytes that a sheet may have, by who reads it.
 #[derive(Clone, Copy, Debug)]
@@ -35,6 +36,9 @@ pub const GROUND_LOADS: RangeInclusive<u32> = 100..=25_000;
 /// Altitudes of a site in m.
 pub const ALTITUDES: RangeInclusive<u16> = 0..=1_500;
 
+/// Bytes of the job day at the end of a dated site.
+const DAY: usize = 2;
+
 const PITCHES: RangeInclusive<u16> = 0..=800;
 const WIDTHS: RangeInclusive<u32> = 1..=100_000;
 const STEPS: RangeInclusive<u32> = 1..=30_000;
@@ -58,6 +62,8 @@ pub mod number {
     pub const MAP_LOAD: u8 = 15;
     pub const UPPER: u8 = 16;
     pub const CIRCLE: u8 = 17;
+    pub const STORE: u8 = 18;
+    pub const NOT_BEGUN: u8 = 19;
 }
 
 /// Why there is no answer, and at which item.
@@ -111,6 +117,8 @@ pub struct Site {
     pub exceptional: u16,
     pub situation: Situation,
     pub altitude: u16,
+    /// Of the set in use, or the recommended ones.
+    pub national: National,
 }
 
 /// A plane roof slope: tenths of a degree and a plan width in mm.
@@ -215,6 +223,7 @@ pub enum Item {
 
 /// The items of a sheet whose frame and pairs are sound, decoded one after the other.
 pub struct Items<'a> {
+    store: &'a Store,
     sheet: &'a [u8],
     count: usize,
     next: usize,
@@ -222,7 +231,7 @@ pub struct Items<'a> {
 
 impl<'a> Items<'a> {
     /// Checks the frame (1) and all pairs in turn (2).
-    pub fn of(sheet: &'a [u8], ceiling: Ceiling) -> Result<Self, Refusal> {
+    pub fn of(store: &'a Store, sheet: &'a [u8], ceiling: Ceiling) -> Result<Self, Refusal> {
         let count = frame(sheet, ceiling).ok_or(Refusal::new(number::FRAME, 0))?;
         let mut free = 2 + 4 * count;
         for item in 0..count {
@@ -233,6 +242,7 @@ impl<'a> Items<'a> {
             free = offset + length;
         }
         Ok(Self {
+            store,
             sheet,
             count,
             next: 0,
@@ -254,7 +264,8 @@ impl Iterator for Items<'_> {
         self.next += 1;
         let (offset, length) = pair(self.sheet, index);
         let bytes = &self.sheet[offset..offset + length];
-        Some(decode(bytes, index == 0).map_err(|number| Refusal::new(number, index)))
+        let item = decode(bytes, index == 0, self.store);
+        Some(item.map_err(|number| Refusal::new(number, index)))
     }
 
     fn size_hint(&self) -> (usize, Option<usize>) {
@@ -280,9 +291,11 @@ fn pair(sheet: &[u8], item: usize) -> (usize, usize) {
 }
 
 /// An item's bytes taken apart, or the number of the first rule that they break.
-fn decode(bytes: &[u8], is_first: bool) -> Result<Item, u8> {
+fn decode(bytes: &[u8], is_first: bool, store: &Store) -> Result<Item, u8> {
     let (&kind, rest) = bytes.split_first().ok_or(number::LENGTH)?;
-    if length_of(kind, rest)? != bytes.len() {
+    let length = length_of(kind, rest)?;
+    let is_dated = is_site(kind) && bytes.len() == length + DAY;
+    if bytes.len() != length && !is_dated {
         return Err(number::LENGTH);
     }
     if is_site(kind) != is_first {
@@ -290,14 +303,14 @@ fn decode(bytes: &[u8], is_first: bool) -> Result<Item, u8> {
     }
     let fields = Fields(rest);
     match kind {
-        1 => site(fields).map(Item::Site),
+        1 => site(fields, store).map(Item::Site),
         2 => monopitch(fields).map(Item::Roof),
         3 => pitched(fields).map(Item::Roof),
         4 => multi_span(fields).map(Item::Roof),
         5 => cylindrical(fields).map(Item::Roof),
         6 => lower(fields).map(Item::Roof),
         7 => projection(fields).map(Item::Roof),
-        8 => map_site(fields).map(Item::Site),
+        8 => map_site(fields, store).map(Item::Site),
         9 => drift_roof(fields).map(Item::Roof),
         _ => stepped(fields).map(Item::Stepped),
     }
@@ -308,7 +321,8 @@ fn is_site(kind: u8) -> bool {
     matches!(kind, 1 | 8)
 }
 
-/// The length that an item of this kind has. A multi-span roof says so in its count byte.
+/// The length that an item of this kind has, a site without a day. A multi-span roof says so in its
+/// count byte.
 fn length_of(kind: u8, rest: &[u8]) -> Result<usize, u8> {
     let spans = || rest.first().copied().map(usize::from).ok_or(number::LENGTH);
     Ok(match kind {
@@ -349,6 +363,11 @@ impl Fields<'_> {
         u32::from_le_bytes(self.take())
     }
 
+    /// The job day, where there are bytes for one.
+    fn day(&mut self) -> Option<u16> {
+        (!self.0.is_empty()).then(|| self.u16())
+    }
+
     fn pitch(&mut self) -> Result<u16, u8> {
         within(self.u16(), PITCHES, number::ROOF_FIELD)
     }
@@ -375,20 +394,22 @@ pub fn within<T: PartialOrd>(value: T, range: RangeInclusive<T>, refusal: u8) ->
     }
 }
 
-fn site(mut fields: Fields) -> Result<Site, u8> {
+fn site(mut fields: Fields, store: &Store) -> Result<Site, u8> {
     let ground_load = within(fields.u32(), GROUND_LOADS, number::SITE_FIELD)?;
-    site_with(ground_load, &mut fields)
+    let site = site_with(ground_load, &mut fields)?;
+    with_national(site, fields, store)
 }
 
-/// The map is asked (14, 15) when every other field is known to be right.
-fn map_site(mut fields: Fields) -> Result<Site, u8> {
+/// The map is asked (14, 15) when every field is known to be right.
+fn map_site(mut fields: Fields, store: &Store) -> Result<Site, u8> {
     let (region, zone) = (fields.u8(), fields.u8());
     let rest = site_with(0, &mut fields)?;
     let ground_load = ground::load(region, zone, rest.altitude)?;
-    Ok(Site {
+    let site = Site {
         ground_load,
         ..rest
-    })
+    };
+    with_national(site, fields, store)
 }
 
 /// The fields from Ce on. The altitude comes last, as its rule (7) stands behind the others (6).
@@ -400,7 +421,14 @@ fn site_with(ground_load: u32, fields: &mut Fields) -> Result<Site, u8> {
         exceptional: within(fields.u16(), 100..=300, number::SITE_FIELD)?,
         situation: Situation::of(fields.u8()).ok_or(number::SITE_FIELD)?,
         altitude: within(fields.u16(), ALTITUDES, number::ALTITUDE)?,
+        national: RECOMMENDED,
     })
+}
+
+/// The store is asked (19) behind every other rule on a site.
+fn with_national(site: Site, mut fields: Fields, store: &Store) -> Result<Site, u8> {
+    let national = store.in_use(fields.day())?;
+    Ok(Site { national, ..site })
 }
 
 fn monopitch(mut fields: Fields) -> Result<Roof, u8> {

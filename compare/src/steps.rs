@@ -3,6 +3,7 @@
 use std::iter;
 
 use crate::sheet::{number, Ceiling, Item, Items, LowerRoof, Refusal, Roof, Slope, SteppedRoof};
+use crate::store::Store;
 
 /// What an upper item gives to a roof below it.
 #[derive(Clone, Copy)]
@@ -42,13 +43,16 @@ pub struct Steps {
 }
 
 impl Steps {
-    /// Hands on each item that its own rules accept, with its index; then checks the upper items.
+    /// Checks the store (18). Then hands on each item that its own rules accept, with its index,
+    /// and checks the upper items.
     pub fn of(
+        store: &[u32],
         sheet: &[u8],
         ceiling: Ceiling,
         mut keep: impl FnMut(usize, &Item),
     ) -> Result<Self, Refusal> {
-        let items = Items::of(sheet, ceiling)?;
+        let store = Store::of(store)?;
+        let items = Items::of(&store, sheet, ceiling)?;
         let mut steps = Self {
             uppers: Vec::with_capacity(items.len()),
             above: Vec::with_capacity(items.len()),
@@ -143,6 +147,7 @@ mod tests {
     use crate::calls::{self, NONE, REFUSED};
     use crate::listing;
     use crate::sheets::{sheet, with_site, words, SITE};
+    use crate::store::EMPTY;
 
     /// 20.0° and 40.0°, widths of 9,000 and 6,000, a guard on the right.
     fn hall() -> Vec<u8> {
@@ -184,7 +189,7 @@ mod tests {
     }
 
     fn verdict(roofs: &[Vec<u8>]) -> u32 {
-        calls::verdict(&with_site(roofs))
+        calls::verdict(&EMPTY, &with_site(roofs))
     }
 
     /// Roofs by the indexes of their upper items, 0 for a hall.
@@ -198,7 +203,7 @@ mod tests {
     }
 
     fn figures(roofs: &[Vec<u8>], index: usize) -> LowerRoof {
-        match calls::ask(&with_site(roofs), index) {
+        match calls::ask(&EMPTY, &with_site(roofs), index) {
             Ok((_, Some(Roof::Lower(roof)))) => roof,
             other => panic!("{other:?}"),
         }
@@ -232,7 +237,7 @@ mod tests {
 
     fn segments(roofs: &[Vec<u8>], item: usize, code: u8) -> Vec<u32> {
         let mut out = [0; 128];
-        let count = calls::make(&with_site(roofs), item, code, &mut out);
+        let count = calls::make(&EMPTY, &with_site(roofs), item, code, &mut out);
         assert!(count < REFUSED);
         out[..4 * count as usize].to_vec()
     }
@@ -269,7 +274,8 @@ mod tests {
             let mut site = SITE.to_vec();
             site[11] = situation;
             let sheet = sheet(&[site, under(2), hall()]);
-            let is_made = |code: &u8| calls::make(&sheet, 1, *code, &mut [0; 128]) < REFUSED;
+            let is_made =
+                |code: &u8| calls::make(&EMPTY, &sheet, 1, *code, &mut [0; 128]) < REFUSED;
             assert!((0..=255).filter(is_made).eq(list.iter().copied()));
         }
     }
@@ -281,8 +287,8 @@ mod tests {
         site[12..].copy_from_slice(&1_200_u16.to_le_bytes());
         let sheet = sheet(&[site, shed(), under(1)]);
         for slope in 0..=3 {
-            assert_eq!(calls::overhang(&sheet, 2, slope), NONE);
-            assert_eq!(calls::guard_force(&sheet, 2, slope), NONE);
+            assert_eq!(calls::overhang(&EMPTY, &sheet, 2, slope), NONE);
+            assert_eq!(calls::guard_force(&EMPTY, &sheet, 2, slope), NONE);
         }
     }
 
@@ -304,7 +310,10 @@ mod tests {
             item.resize(length, 0);
             assert_eq!(verdict(&[hall(), item]), refused(4, 2));
         }
-        assert_eq!(calls::verdict(&sheet(&[under(1), hall()])), refused(5, 0));
+        assert_eq!(
+            calls::verdict(&EMPTY, &sheet(&[under(1), hall()])),
+            refused(5, 0)
+        );
     }
 
     /// The site, past the last item, and roofs of other kinds.
@@ -389,7 +398,7 @@ mod tests {
 
     #[test]
     fn an_index_asked_for_comes_last() {
-        let load = |uppers: &[u8]| calls::load(&with_site(&roofs_of(uppers)), 40, 1, 0);
+        let load = |uppers: &[u8]| calls::load(&EMPTY, &with_site(&roofs_of(uppers)), 40, 1, 0);
         assert_eq!(load(&[9, 0]), refused(16, 1));
         assert_eq!(load(&[1, 0]), refused(17, 1));
         assert_eq!(load(&[2, 0]), refused(12, 40));
@@ -398,7 +407,7 @@ mod tests {
     /// The roofs in the order of their lines.
     fn order_of(uppers: &[u8]) -> Vec<usize> {
         let mut text = Vec::new();
-        listing::list(&with_site(&roofs_of(uppers)), &mut text);
+        listing::list(&EMPTY, &with_site(&roofs_of(uppers)), &mut text);
         let text = String::from_utf8(text).unwrap();
         let number = |line: &str| line.split(' ').next().unwrap().parse().unwrap();
         let mut order: Vec<usize> = text.lines().skip(1).map(number).collect();

@@ -5,13 +5,17 @@ use std::cmp::Ordering;
 use second::calls::{refusal_parts, NONE, REFUSED};
 
 use crate::before::Returned;
+use crate::check::Lent;
 use crate::desk::{self, Read};
 use crate::draft;
 use crate::eaves::Eave;
 use crate::halls::{self, Step};
+use crate::jobs::{self, Job};
+use crate::stores;
 
-/// The eight calls, in the order of the header.
-pub const CALLS: [&str; 8] = [
+/// The nine calls, in the order of the header.
+pub const CALLS: [&str; 9] = [
+    "add_set",
     "verdict",
     "desk_verdict",
     "make",
@@ -22,7 +26,7 @@ pub const CALLS: [&str; 8] = [
     "ground_load",
 ];
 /// The highest number of a refusal.
-const MAX_NUMBER: usize = 17;
+const MAX_NUMBER: usize = 19;
 /// Lengths of slices that every run goes through.
 pub const LENGTHS: usize = 141;
 /// Indexes that no sheet has and every run asks for: those at the ends of 8, 16, 31, 32 and 64 bits.
@@ -52,8 +56,8 @@ const VALLEYS: u64 = 120 * 2;
 pub const DRIFT_ROUNDS: u64 = 24;
 /// Pairs of the sheet whose every offset and every length is asked for.
 pub const PAIRS: usize = 3;
-/// Refusals of a sheet inside the desk's ceiling, which the desk and a terminal share.
-const SHEET_REFUSALS: [usize; 14] = [1, 2, 3, 4, 5, 6, 7, 8, 9, 10, 14, 15, 16, 17];
+/// Refusals of a store or of a sheet inside the desk's ceiling, which the desk and a terminal share.
+const SHEET_REFUSALS: [usize; 16] = [1, 2, 3, 4, 5, 6, 7, 8, 9, 10, 14, 15, 16, 17, 18, 19];
 /// Situations with each code that a stepped roof has there.
 const STEPPED_CODES: usize = 11;
 /// A load lies less than this above the exact rule, in millionths of a N/m².
@@ -65,6 +69,7 @@ const SHOWN: u64 = 5;
 
 #[derive(Clone, Copy)]
 pub enum Call {
+    AddSet,
     Verdict,
     DeskVerdict,
     Make,
@@ -100,6 +105,7 @@ pub struct Tally {
     pub eaves: EaveTally,
     pub desk: DeskTally,
     pub halls: HallTally,
+    pub sets: SetTally,
     disagreements: u64,
 }
 
@@ -467,6 +473,133 @@ impl HallTally {
     }
 }
 
+/// What was asked about national figures.
+#[derive(Default)]
+pub struct SetTally {
+    /// Accepted sheets by kind of site, without a day and with one.
+    sites: [[u64; 2]; 2],
+    /// Dated jobs by the store's count of sets, where it is one that every run meets.
+    counts: [u64; stores::COUNTS.len()],
+    /// Dated jobs before every first day, on the day before one, on one, and on the day after one.
+    days: [u64; 4],
+    /// Segments of a dated job that are those of the job without its day, and others, by kind.
+    pub segments: [[u64; 2]; jobs::KINDS.len()],
+    /// Listings under the recommended figures, with and without a day, that are alike.
+    pub recommended: u64,
+    /// Days and figures asked for in turn.
+    pub every_day: u64,
+    pub every_figure: u64,
+    /// Stores that every call refused, and those with a number at the end of its range that none did.
+    pub broken: u64,
+    pub at_ends: u64,
+    /// Stores with bad numbers behind the last set that changed no answer.
+    pub behind: u64,
+    /// Sets added, by the new count, and sets that were not.
+    added: [u64; stores::MAX_SETS],
+    not_added: u64,
+    /// Jobs before an added set whose every answer was as before, and jobs since then with another.
+    pub kept: u64,
+    pub moved: u64,
+    /// Loads under a heavier snow, and those of them that are no more than under the lighter one.
+    pub heavier: u64,
+    pub level: u64,
+}
+
+impl SetTally {
+    /// Counts a dated or undated job that is accepted, or that no set has begun for.
+    pub fn verdict(&mut self, lent: Lent, verdict: u32) {
+        let accepted = verdict < REFUSED;
+        if !accepted && number_of(verdict) != 19 {
+            return;
+        }
+        let job = Job::of(lent);
+        if accepted {
+            self.sites[usize::from(job.on_map)][usize::from(job.days.is_some())] += 1;
+        }
+        if let Some(days) = job.days {
+            for (count, is_met) in self.days.iter_mut().zip(days) {
+                *count += u64::from(is_met);
+            }
+            if let Some(place) = stores::COUNTS.iter().position(|&count| count == job.count) {
+                self.counts[place] += 1;
+            }
+        }
+    }
+
+    /// Counts an answer about a set that was to be added.
+    pub fn answer(&mut self, answer: u32) {
+        match self.added.get_mut((answer as usize).wrapping_sub(1)) {
+            Some(count) => *count += 1,
+            None => self.not_added += 1,
+        }
+    }
+
+    fn is_good(&self) -> bool {
+        let met = [
+            self.recommended,
+            self.broken,
+            self.at_ends,
+            self.behind,
+            self.not_added,
+            self.kept,
+            self.moved,
+            self.heavier,
+            self.level,
+        ];
+        self.sites.iter().flatten().all(|&count| count > 0)
+            && self.counts.iter().chain(&self.days).all(|&count| count > 0)
+            && self.met_segments()
+            && self.every_day == jobs::EVERY_DAY
+            && self.every_figure == jobs::EVERY_FIGURE
+            && self.added.iter().all(|&count| count > 0)
+            && met.iter().all(|&count| count > 0)
+    }
+
+    /// Whether every kind had segments of either sort, kind 7 those of the job without a day alone.
+    fn met_segments(&self) -> bool {
+        let mut kinds = jobs::KINDS.iter().zip(self.segments);
+        kinds.all(|(&kind, [same, other])| same > 0 && (other > 0) == (kind != draft::PROJECTION))
+    }
+
+    fn print(&self) {
+        let [[given, given_dated], [map, map_dated]] = self.sites;
+        println!("SETS accepted sites without a day {given} of kind 1, {map} of kind 8");
+        println!("  with a day {given_dated} of kind 1, {map_dated} of kind 8");
+        let [before, one_before, on, one_after] = self.days;
+        println!("  jobs before every first day {before}, a day before one {one_before}");
+        println!("  jobs on a first day {on}, a day after one {one_after}");
+        let (sets, dated) = (stores::COUNTS, self.counts);
+        println!("  jobs with {sets:?} sets in the store {dated:?}");
+        for (kind, [same, other]) in jobs::KINDS.iter().zip(self.segments) {
+            println!("  segments of kind {kind} as without a day {same}, otherwise {other}");
+        }
+        println!(
+            "  listings alike under the recommended figures {}",
+            self.recommended
+        );
+        let (days, figures) = (self.every_day, self.every_figure);
+        println!("  in turn {days} days and {figures} figures");
+        let (heavier, level) = (self.heavier, self.level);
+        println!("  loads under heavier snow {heavier}, of them level {level}");
+        self.print_stores();
+    }
+
+    fn print_stores(&self) {
+        let (broken, at_ends, behind) = (self.broken, self.at_ends, self.behind);
+        println!("  stores refused by every call {broken}");
+        println!("  stores with a number at the end of its range {at_ends}");
+        println!("  stores with bad numbers behind the last set {behind}");
+        println!(
+            "  sets added, each of {} at least {} times, not added {}",
+            self.added.len(),
+            self.added.iter().min().unwrap_or(&0),
+            self.not_added
+        );
+        let (kept, moved) = (self.kept, self.moved);
+        println!("  jobs as before an added set {kept}, others since {moved}");
+    }
+}
+
 impl Tally {
     pub fn new() -> Self {
         Self {
@@ -488,6 +621,7 @@ impl Tally {
             eaves: EaveTally::default(),
             desk: DeskTally::default(),
             halls: HallTally::default(),
+            sets: SetTally::default(),
             disagreements: 0,
         }
     }
@@ -523,32 +657,37 @@ impl Tally {
     }
 
     /// Counts a load that both sides returned. One that is not as it must be is a disagreement.
-    pub fn returned(&mut self, sheet: &[u8], returned: &Returned, describe: impl Fn() -> String) {
+    pub fn returned(&mut self, lent: Lent, returned: &Returned, describe: impl Fn() -> String) {
         if !self.tenths.count(returned) {
-            self.disagree(sheet, || format!("{}: {returned:?}", describe()));
+            self.disagree(lent, || format!("{}: {returned:?}", describe()));
         }
     }
 
     /// Counts an overhang that both sides returned, in the same way.
-    pub fn eave(&mut self, sheet: &[u8], eave: &Eave, describe: impl Fn() -> String) {
+    pub fn eave(&mut self, lent: Lent, eave: &Eave, describe: impl Fn() -> String) {
         if !self.eaves.count(eave) {
-            self.disagree(sheet, || format!("{}: {eave:?}", describe()));
+            self.disagree(lent, || format!("{}: {eave:?}", describe()));
         }
     }
 
     /// Counts the verdicts of a terminal and of the desk on a sheet, in the same way.
-    pub fn read(&mut self, sheet: &[u8], read: &Read) {
+    pub fn read(&mut self, lent: Lent, read: &Read) {
         if !self.desk.count(read) {
-            self.disagree(sheet, || format!("{read:?}"));
+            self.disagree(lent, || format!("{read:?}"));
         }
     }
 
     /// Counts a disagreement. The first few are printed at once, lest a crash hide them.
-    pub fn disagree(&mut self, sheet: &[u8], describe: impl FnOnce() -> String) {
+    pub fn disagree(&mut self, lent: Lent, describe: impl FnOnce() -> String) {
         self.disagreements += 1;
         if self.disagreements <= SHOWN {
-            let bytes: String = sheet.iter().map(|byte| format!("{byte:02x}")).collect();
-            println!("DISAGREEMENT {}\n  sheet {bytes}", describe());
+            let bytes: String = lent
+                .sheet
+                .iter()
+                .map(|byte| format!("{byte:02x}"))
+                .collect();
+            println!("DISAGREEMENT {}\n  store {:?}", describe(), lent.store);
+            println!("  sheet {bytes}");
         }
     }
 
@@ -563,7 +702,8 @@ impl Tally {
     /// No disagreement, and every refusal, every slice length, every missing index, every place of
     /// the map, every situation, every valley, every number of a pair, every drop, at either eave an
     /// overhang by the other slope's load, every edge of the desk's ceiling, either side of every
-    /// kind of upper item and every length of a circle was met.
+    /// kind of upper item, every length of a circle, and of national figures what `SetTally` counts
+    /// was met.
     pub fn is_good(&self) -> bool {
         self.agrees()
             && self.refused[1..].iter().all(|&count| count > 0)
@@ -579,6 +719,7 @@ impl Tally {
             && self.eaves.is_good()
             && self.desk.is_good()
             && self.halls.is_good()
+            && self.sets.is_good()
     }
 
     pub fn print(&self) {
@@ -596,6 +737,21 @@ impl Tally {
             println!("  {name} {count}");
         }
         println!("ANSWERS {} none {}", self.answered, self.none);
+        self.print_refusals();
+        self.map.print();
+        self.drifts.print();
+        self.pairs.print();
+        self.tenths.print();
+        self.eaves.print();
+        self.desk.print();
+        self.halls.print();
+        self.sets.print();
+        self.print_lengths();
+        self.print_missing();
+        println!("DISAGREEMENTS {}", self.disagreements);
+    }
+
+    fn print_refusals(&self) {
         println!("REFUSALS");
         for number in 1..=11 {
             println!("  {number} {}", self.refused[number]);
@@ -605,16 +761,6 @@ impl Tally {
         for number in 13..=MAX_NUMBER {
             println!("  {number} {}", self.refused[number]);
         }
-        self.map.print();
-        self.drifts.print();
-        self.pairs.print();
-        self.tenths.print();
-        self.eaves.print();
-        self.desk.print();
-        self.halls.print();
-        self.print_lengths();
-        self.print_missing();
-        println!("DISAGREEMENTS {}", self.disagreements);
     }
 
     fn print_lengths(&self) {

@@ -1,6 +1,7 @@
 /* Prints how much stack each call takes at most, over the sheets that are named as arguments and the heaviest sheets there
    are: 31 multi-span roofs of 16 spans, of kind 4 in situation 1 and of kind 9 in situations 1 and 3, and 31 roofs in a
-   chain of kind 10; for the quote desk six and seven of them. Each call runs on a stack of its own that is painted before. */
+   chain of kind 10; for the quote desk six and seven of them. The store has 32 sets, and the heaviest sheets are dated.
+   Each call runs on a stack of its own that is painted before. */
 #include <pthread.h>
 #include <stdint.h>
 #include <stdio.h>
@@ -9,20 +10,23 @@
 
 #include "wuqodlisa.h"
 
-enum { STACK = 1 << 20, PAINT = 0xA5, SHEET = 16384, CALLS = 9 };
+enum { STACK = 1 << 20, PAINT = 0xA5, SHEET = 16384, CALLS = 10, SETS = 32, FIELDS = 6 };
 
 static const char *const names[CALLS] = {
     "nothing", "snow_verdict", "snow_make", "snow_load", "snow_overhang", "snow_guard_force", "snow_list",
-    "snow_ground_load", "snow_desk_verdict"};
+    "snow_ground_load", "snow_desk_verdict", "snow_add_set"};
 
 static unsigned char stack[STACK] __attribute__((aligned(4096)));
+static uint32_t store[SNOW_STORE_NUMBERS];
+static uint32_t set[FIELDS];
 static unsigned char sheet[SHEET];
 static size_t length;
 static uint8_t out[SNOW_LIST_ROOM];
 static uint32_t numbers[128];
 static size_t most[CALLS];
 
-/* A question of a call. Of snow_ground_load the zone is the item, the region the code and the altitude the station. */
+/* A question of a call. Of snow_ground_load the zone is the item, the region the code and the altitude the station; of
+   snow_add_set the item is the count of the set's numbers. */
 struct job {
     int call;
     size_t item;
@@ -34,14 +38,15 @@ static void *run(void *argument)
 {
     const struct job *job = argument;
     switch (job->call) {
-    case 1: snow_verdict(sheet, length); break;
-    case 2: snow_make(sheet, length, job->item, job->code, numbers, 128); break;
-    case 3: snow_load(sheet, length, job->item, job->code, job->station); break;
-    case 4: snow_overhang(sheet, length, job->item, job->code); break;
-    case 5: snow_guard_force(sheet, length, job->item, job->code); break;
-    case 6: snow_list(sheet, length, out, sizeof out); break;
+    case 1: snow_verdict(store, SNOW_STORE_NUMBERS, sheet, length); break;
+    case 2: snow_make(store, SNOW_STORE_NUMBERS, sheet, length, job->item, job->code, numbers, 128); break;
+    case 3: snow_load(store, SNOW_STORE_NUMBERS, sheet, length, job->item, job->code, job->station); break;
+    case 4: snow_overhang(store, SNOW_STORE_NUMBERS, sheet, length, job->item, job->code); break;
+    case 5: snow_guard_force(store, SNOW_STORE_NUMBERS, sheet, length, job->item, job->code); break;
+    case 6: snow_list(store, SNOW_STORE_NUMBERS, sheet, length, out, sizeof out); break;
     case 7: snow_ground_load(job->code, (uint8_t)job->item, (uint16_t)job->station); break;
-    case 8: snow_desk_verdict(sheet, length); break;
+    case 8: snow_desk_verdict(store, SNOW_STORE_NUMBERS, sheet, length); break;
+    case 9: snow_add_set(store, SNOW_STORE_NUMBERS, set, job->item); break;
     default: break;
     }
     return NULL;
@@ -69,7 +74,7 @@ static void measure(struct job job)
 static void measure_sheet(void)
 {
     const uint8_t codes[] = {1, 2, 3, 11, 12, 13, 31, 45, 255};
-    uint32_t items = snow_verdict(sheet, length);
+    uint32_t items = snow_verdict(store, SNOW_STORE_NUMBERS, sheet, length);
     if (SNOW_IS_REFUSAL(items))
         items = 1;
     measure((struct job){0, 0, 0, 0});
@@ -97,6 +102,17 @@ static void measure_map(void)
                 measure((struct job){7, zone, region, altitude});
 }
 
+/* Fills the store set by set, each with five numbers, which are refused, before it has six; then one set too many. */
+static void measure_sets(void)
+{
+    for (uint32_t count = 0; count <= SETS; count++) {
+        const uint32_t next[FIELDS] = {2000 * count, 200 + count, 80, 400 + count, 5000, 15000 + count};
+        memcpy(set, next, sizeof set);
+        measure((struct job){9, FIELDS - 1, 0, 0});
+        measure((struct job){9, FIELDS, 0, 0});
+    }
+}
+
 static void put(size_t at, uint32_t value, int bytes)
 {
     for (int i = 0; i < bytes; i++)
@@ -113,7 +129,8 @@ static size_t heavy_site(size_t at, uint8_t situation)
     put(at + 9, 299, 2);
     sheet[at + 11] = situation;
     put(at + 12, 1500, 2);
-    return 14;
+    put(at + 14, 65535, 2); /* the job day */
+    return 16;
 }
 
 /* 16 spans; on a roof of kind 9 then a depth and a length for each valley. */
@@ -179,6 +196,7 @@ static void heaviest(uint8_t kind, uint8_t situation, size_t items)
 
 int main(int count, char **names_of_sheets)
 {
+    measure_sets();
     for (int i = 1; i < count; i++) {
         FILE *file = fopen(names_of_sheets[i], "rb");
         if (file == NULL) {

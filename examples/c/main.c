@@ -1,5 +1,5 @@
-/* Asks the calls about one sheet and about some ground loads, prints every answer and checks what the header says of
- * them.
+/* Asks the calls about one sheet, about some ground loads and about sets of national figures, prints every answer and
+ * checks what the header says of them. The sheet is asked about with an empty store.
  *     c_example SHEET         all answers; the exit code is 1 where a check fails
  *     c_example SHEET list    the listing alone
  */
@@ -11,6 +11,7 @@
 #include "wuqodlisa.h"
 
 #define SLICE 128 /* 32 segments of four numbers, the most there are */
+#define FIELDS 6  /* numbers of a set */
 #define MARK 0xA5 /* fills memory before it is lent */
 
 struct sheet {
@@ -88,7 +89,8 @@ static bool is_marked(const void *memory, size_t length)
 static uint32_t make(const struct sheet *sheet, size_t item, uint8_t code, uint32_t out[SLICE], size_t room)
 {
     memset(out, MARK, SLICE * sizeof *out);
-    uint32_t answer = snow_make(sheet->bytes, sheet->length, item, code, out, room);
+    uint32_t answer =
+        snow_make(SNOW_EMPTY_STORE, SNOW_STORE_NUMBERS, sheet->bytes, sheet->length, item, code, out, room);
     size_t written = decode(answer).number != 0 ? 0 : 4 * (size_t)answer;
     bool kept = written <= SLICE && is_marked(out + written, (SLICE - written) * sizeof *out);
     check(kept, "snow_make altered more than its segments", item);
@@ -97,7 +99,8 @@ static uint32_t make(const struct sheet *sheet, size_t item, uint8_t code, uint3
 
 static uint32_t load(const struct sheet *sheet, size_t item, uint8_t code, uint32_t station)
 {
-    uint32_t answer = snow_load(sheet->bytes, sheet->length, item, code, station);
+    uint32_t answer =
+        snow_load(SNOW_EMPTY_STORE, SNOW_STORE_NUMBERS, sheet->bytes, sheet->length, item, code, station);
     printf("LOAD %zu %u at %" PRIu32 ": ", item, code, station);
     print_answer(answer, "N/m2");
     return answer;
@@ -139,8 +142,8 @@ static size_t ask_arrangement(const struct sheet *sheet, size_t item, uint8_t co
 /* The forces at eave and guard of one slope; how many there are. */
 static size_t ask_slope(const struct sheet *sheet, size_t item, uint8_t slope)
 {
-    uint32_t overhang = snow_overhang(sheet->bytes, sheet->length, item, slope);
-    uint32_t guard = snow_guard_force(sheet->bytes, sheet->length, item, slope);
+    uint32_t overhang = snow_overhang(SNOW_EMPTY_STORE, SNOW_STORE_NUMBERS, sheet->bytes, sheet->length, item, slope);
+    uint32_t guard = snow_guard_force(SNOW_EMPTY_STORE, SNOW_STORE_NUMBERS, sheet->bytes, sheet->length, item, slope);
     printf("OVERHANG %zu slope %u: ", item, slope);
     print_answer(overhang, "N/m");
     printf("GUARD %zu slope %u: ", item, slope);
@@ -163,9 +166,9 @@ static size_t ask_roof(const struct sheet *sheet, size_t item)
 static void check_refused(const struct sheet *sheet, size_t item, uint32_t refusal)
 {
     uint32_t out[SLICE];
-    uint32_t reading = snow_load(sheet->bytes, sheet->length, item, 1, 0);
-    uint32_t overhang = snow_overhang(sheet->bytes, sheet->length, item, 1);
-    uint32_t guard = snow_guard_force(sheet->bytes, sheet->length, item, 1);
+    uint32_t reading = snow_load(SNOW_EMPTY_STORE, SNOW_STORE_NUMBERS, sheet->bytes, sheet->length, item, 1, 0);
+    uint32_t overhang = snow_overhang(SNOW_EMPTY_STORE, SNOW_STORE_NUMBERS, sheet->bytes, sheet->length, item, 1);
+    uint32_t guard = snow_guard_force(SNOW_EMPTY_STORE, SNOW_STORE_NUMBERS, sheet->bytes, sheet->length, item, 1);
     check(make(sheet, item, 1, out, SLICE) == refusal, "snow_make refuses otherwise", item);
     check(reading == refusal, "snow_load refuses otherwise", item);
     check(overhang == refusal && guard == refusal, "a force is refused otherwise", item);
@@ -175,7 +178,7 @@ static void check_refused(const struct sheet *sheet, size_t item, uint32_t refus
 static void ask_missing(const struct sheet *sheet, size_t item)
 {
     printf("INDEX %zu: ", item);
-    print_answer(snow_load(sheet->bytes, sheet->length, item, 1, 0), "N/m2");
+    print_answer(snow_load(SNOW_EMPTY_STORE, SNOW_STORE_NUMBERS, sheet->bytes, sheet->length, item, 1, 0), "N/m2");
     check_refused(sheet, item, SNOW_REFUSED + 65536 * 12 + shown(item));
 }
 
@@ -202,14 +205,68 @@ static void ask_map(void)
     }
 }
 
+/* Adds a set. A refusal alters nothing, an answer the count and the set's place alone. */
+static uint32_t add_set(uint32_t store[SNOW_STORE_NUMBERS], const uint32_t *set, size_t fields)
+{
+    uint32_t after[SNOW_STORE_NUMBERS];
+    memcpy(after, store, sizeof after);
+    uint32_t answer = snow_add_set(store, SNOW_STORE_NUMBERS, set, fields);
+    printf("SET of %zu numbers from day %" PRIu32 ": ", fields, set[0]);
+    print_answer(answer, "sets");
+    if (decode(answer).number == 0) {
+        memcpy(after + 1 + FIELDS * after[0], set, FIELDS * sizeof *set);
+        after[0]++;
+        check(answer == after[0], "the count of sets is another one", 0);
+    }
+    check(memcmp(store, after, sizeof after) == 0, "snow_add_set altered more than its set", 0);
+    return answer;
+}
+
+/* A dated job: an arch of 4,000 on 20,000 under 1,000 N/m2. mu3 is 2.2 before the upper value of the set in use limits it,
+ * and the load at the right peak is 1,000 times mu3. */
+static uint32_t dated_load(const uint32_t *store, size_t numbers, uint16_t day)
+{
+    const uint8_t low = (uint8_t)(day % 256), high = (uint8_t)(day / 256);
+    const uint8_t sheet[] = {2, 0, 10, 0, 16, 0, 26, 0, 9, 0, /* then the site and the arch */
+                             1, 0xE8, 3, 0, 0, 100, 0, 100, 0, 200, 0, 0, 0xF4, 1, low, high,
+                             5, 0xA0, 0x0F, 0, 0, 0x20, 0x4E, 0, 0};
+    uint32_t answer = snow_load(store, numbers, sheet, sizeof sheet, 1, 2, 60000);
+    printf("JOB of day %u, %" PRIu32 " sets in %zu numbers: ", day, store[0], numbers);
+    print_answer(answer, "N/m2");
+    return answer;
+}
+
+/* A country's annex by its first day, then a later one. Open jobs stay on the old one. */
+static void ask_sets(void)
+{
+    static const uint32_t first[] = {9000, 180, 80, 400, 5000, 15000};
+    static const uint32_t second[] = {9500, 250, 100, 300, 4000, 20000, 0}; /* the last number is one too many */
+    uint32_t store[SNOW_STORE_NUMBERS];
+    memcpy(store, SNOW_EMPTY_STORE, sizeof store);
+    check(refused_with(dated_load(store, SNOW_STORE_NUMBERS, 9132), 19, 0), "a job without a set", 0);
+    check(add_set(store, first, FIELDS) == 1, "the first set", 0);
+    check(refused_with(dated_load(store, SNOW_STORE_NUMBERS, 8999), 19, 0), "a job before the first set", 0);
+    check(dated_load(store, SNOW_STORE_NUMBERS, 9132) == 1800, "a job of the first set", 0);
+    check(refused_with(add_set(store, second, FIELDS - 1), 18, 0), "a set of five numbers is added", 0);
+    check(refused_with(add_set(store, second, FIELDS + 1), 18, 0), "a set of seven numbers is added", 0);
+    check(add_set(store, second, FIELDS) == 2, "the second set", 0);
+    check(refused_with(add_set(store, first, FIELDS), 18, 0), "a set that isn't later is added", 0);
+    check(dated_load(store, SNOW_STORE_NUMBERS, 9132) == 1800, "an open job changes", 0);
+    check(dated_load(store, SNOW_STORE_NUMBERS, 9499) == 1800, "the last day of the first set", 0);
+    check(dated_load(store, SNOW_STORE_NUMBERS, 9500) == 2200, "the first day of the second set", 0);
+    check(refused_with(dated_load(store, SNOW_STORE_NUMBERS - 1, 9500), 18, 0), "a store of 192 numbers", 0);
+}
+
 /* Prints the listing; the count of its lines. One byte of room too little alters nothing. */
 static size_t list(const struct sheet *sheet)
 {
     static uint8_t text[SNOW_LIST_ROOM];
     memset(text, MARK, sizeof text);
-    size_t lines = 0, bytes = snow_list(sheet->bytes, sheet->length, text, sizeof text - 1);
+    size_t lines = 0;
+    size_t bytes =
+        snow_list(SNOW_EMPTY_STORE, SNOW_STORE_NUMBERS, sheet->bytes, sheet->length, text, sizeof text - 1);
     check(bytes == 0 && is_marked(text, sizeof text), "a listing in too little room", 0);
-    bytes = snow_list(sheet->bytes, sheet->length, text, sizeof text);
+    bytes = snow_list(SNOW_EMPTY_STORE, SNOW_STORE_NUMBERS, sheet->bytes, sheet->length, text, sizeof text);
     for (size_t i = 0; i < bytes; i++)
         lines += text[i] == '\n';
     fwrite(text, 1, bytes, stdout);
@@ -219,7 +276,7 @@ static size_t list(const struct sheet *sheet)
 /* What the quote desk answers: the terminal's verdict, or 1 where the sheet has more than 8 items or 2,048 bytes. */
 static void ask_desk(const struct sheet *sheet, uint32_t verdict)
 {
-    uint32_t answer = snow_desk_verdict(sheet->bytes, sheet->length);
+    uint32_t answer = snow_desk_verdict(SNOW_EMPTY_STORE, SNOW_STORE_NUMBERS, sheet->bytes, sheet->length);
     unsigned items = sheet->length < 2 ? 0 : sheet->bytes[0] + 256u * sheet->bytes[1];
     bool inside = items <= 8 && sheet->length <= 2048;
     printf("DESK: ");
@@ -230,7 +287,7 @@ static void ask_desk(const struct sheet *sheet, uint32_t verdict)
 static void ask(const struct sheet *sheet)
 {
     size_t lines = 1; /* the header, or the line REFUSED */
-    uint32_t count = snow_verdict(sheet->bytes, sheet->length);
+    uint32_t count = snow_verdict(SNOW_EMPTY_STORE, SNOW_STORE_NUMBERS, sheet->bytes, sheet->length);
     printf("VERDICT: ");
     print_answer(count, "items");
     ask_desk(sheet, count);
@@ -245,6 +302,7 @@ static void ask(const struct sheet *sheet)
     }
     check(list(sheet) == lines, "the listing has other lines", 0);
     ask_map();
+    ask_sets();
     printf("CHECKS: %u\n", checks);
 }
 

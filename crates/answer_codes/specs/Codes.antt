@@ -1,5 +1,7 @@
 -- Answers as numbers of 32 bits, as the header has them.
 use Prim.Native.Nat.{ℕ, _+_, _*_, min}
+use Rattle.added_sets.specs.declared.Added.{Added}
+use Rattle.added_sets.specs.declared.Added.the-variants.{Count, NotAdded}
 use Rattle.map_sites.specs.declared.map.GroundLoad.{GroundLoad}
 use Rattle.map_sites.specs.declared.map.GroundLoad.the-variants.{Load, Refused}
 use Rattle.pairs.specs.Pairs as sheets
@@ -34,3 +36,8 @@ abbrev pub forceCode : ℕ → forces.Force → ℕ
 forceCode item (forces.force newtons) = newtons
 forceCode item forces.none = noneCode
 forceCode item (forces.refused number) = refusalCode number item
+
+-- a count of sets, or 18 of an added set, which names no item and so item 0
+abbrev pub addedCode : Added → ℕ
+addedCode (Count n) = n
+addedCode NotAdded = refusalCode 18 0

@@ -6,11 +6,13 @@ ghost use Rattle.local_forces.specs.Answers.{forceMeans};
 ghost use Rattle.map_sites.specs.Sites.{groundAnswer};
 ghost use Rattle.pairs.specs.Pairs.{verdictMeans, verdictCount};
 ghost use Rattle.reading.specs.Reading.{readingMeans};
-ghost use Rattle.answer_codes.specs.Codes.{refusalCode, verdictCode, answerCode, groundCode, forceCode};
+ghost use Rattle.answer_codes.specs.Codes.{refusalCode, verdictCode, answerCode, groundCode, forceCode, addedCode};
+use added_sets::Added;
 use arrangement::Made;
 use local_forces::LocalForce;
 use map_sites::GroundLoad;
 use map_sites::ground_load;
+use national_sets::STORE;
 use pairs::Verdict;
 use reading::Reading;
 
@@ -89,4 +91,14 @@ pub fn ground_at(region: u8, zone: u8, altitude: u16) -> u32
     ensures { λ r. ⌜ r ≡ groundCode (groundAnswer region zone altitude) ⌝ }
 {
     ground(ground_load(region, zone, altitude))
+}
+
+// A count of sets, or the refusal of an added set, which names no item.
+pub fn added(answer: Added) -> u32
+    ensures { λ r. ⌜ r ≡ addedCode answer ⌝ }
+{
+    match answer {
+        Added::Count(n) => n,
+        Added::NotAdded => refusal(STORE, 0),
+    }
 }

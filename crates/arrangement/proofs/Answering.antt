@@ -5,7 +5,7 @@ use borrow.Author.Tests.{le-leb, lt-leb}
 use Rattle.figures.specs.declared.roof.Roof.{Roof}
 use Rattle.standard.specs.Answers.{value, refused, roomAnswer}
 use Rattle.standard.specs.Arrangements.{count}
-use Rattle.standard.specs.declared.National.{National}
+use Rattle.figures.specs.declared.national.National.{National}
 
 module _ (national : National) (r : Roof) (code room n : ℕ) (e : n ≡ count national r code) where
   pub no-room : room < 4 * n → refused 11 ≡ roomAnswer national r code room

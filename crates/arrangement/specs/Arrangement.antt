@@ -1,6 +1,6 @@
 -- What the maker of arrangements answers, and what it leaves in the slice that it is lent.
 use Prim.Native.Nat.{ℕ, _*_}
-use mathlib.Core.List.{List, [], _∷_, _++_}
+use mathlib.Core.List.{List, _++_}
 use lib.ListN.{drop}
 use Rattle.figures.specs.declared.site.Site.{Site}
 use Rattle.figures.specs.declared.roof.Roof.{Roof}
@@ -8,10 +8,9 @@ use Rattle.standard.specs.Answers.{Answer, value, refused}
 use Rattle.standard.specs.Arrangements.{stretch}
 use Rattle.standard.specs.Stretch.{segments}
 use Rattle.standard.specs.Units.{parts}
-use Rattle.standard.specs.declared.National.{National}
+use Rattle.figures.specs.declared.national.National.{National}
 use Rattle.arrangement.specs.declared.Made.{Made}
 use Rattle.arrangement.specs.declared.Made.the-variants.{Segments, Refused}
-use Rattle.arrangement.specs.declared.Segment.{Segment}
 
 -- the count of segments, or document 01's number
 abbrev pub madeMeans : Made → Answer
@@ -27,7 +26,3 @@ madeCount (Refused number) = 0
 abbrev pub contents : National → Site → Roof → ℕ → Made → List ℕ → List ℕ
 contents national site roof code (Segments n) old = segments parts (stretch national site roof code) n ++ drop (4 * n) old
 contents national site roof code (Refused number) old = old
-
--- the four numbers of a segment
-abbrev pub numbers : Segment → List ℕ
-numbers s = s .start ∷ s .end ∷ s .from ∷ s .to ∷ []

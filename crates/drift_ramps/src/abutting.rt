@@ -5,11 +5,11 @@ ghost use Rattle.figures.specs.Bounds.{Within, AbuttingIn};
 ghost use Rattle.loads.specs.Sizes.{Ground};
 ghost use Rattle.ramps.specs.Ramps.{rampOf, RampIn};
 ghost use Rattle.standard.specs.Abutting.{abuttingLength, abutting, abuttingCount};
-ghost use Rattle.standard.specs.Bounds.{NationalIn};
+ghost use Rattle.figures.specs.Bounds.{NationalIn};
+use figures::National;
 use figures::Slope;
 use ramps::Ramp;
 use ramps::even;
-use standard::National;
 
 // The drift length.
 fn abutting_length(national: National, h: u64) -> u64

@@ -6,12 +6,12 @@ ghost use Prim.Native.Nat.{_≤_, _<_, suc};
 ghost use Rattle.figures.specs.Bounds.{Within, CylindricalIn};
 ghost use Rattle.loads.specs.Sizes.{Ground};
 ghost use Rattle.ramps.specs.Ramps.{rampOf, RampIn};
-ghost use Rattle.standard.specs.Bounds.{NationalIn};
+ghost use Rattle.figures.specs.Bounds.{NationalIn};
 ghost use Rattle.standard.specs.Cylindrical.{archEven, archDrift, halfLoad, peakLoad, cylindrical, cylindricalCount};
+use figures::National;
 use ramps::Ramp;
 use ramps::even;
 use ramps::whole;
-use standard::National;
 
 // The index in the full row, which begins with its second stretch where the first has no length.
 pub fn row_index(short: u64, long: u64, i: usize) -> usize

@@ -1,4 +1,5 @@
 pub mod Accepted
 pub mod Laws
 pub mod Sides
+pub mod Stores
 pub mod Tests

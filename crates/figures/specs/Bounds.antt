@@ -1,7 +1,8 @@
--- The bounds that accepted figures keep. The lemmas that give them are `site-in` and `roof-in` of proofs/Accepted.
+-- The bounds that accepted figures keep. The lemmas that give them are `site-in`, `shape-in` and `figures-in` of proofs/Accepted.
 use Prim.Native.Nat.{ℕ, _*_, _≤_, _<_}
 use mathlib.Core.List.{List}
 use Rattle.figures.specs.RoofRules.{slopeOf}
+use Rattle.figures.specs.declared.national.National.{National}
 use Rattle.figures.specs.declared.site.Site.{Site}
 use Rattle.figures.specs.declared.roof.Slope.{Slope}
 use Rattle.figures.specs.declared.roof.Shape.{Shape}
@@ -18,6 +19,14 @@ pub record SiteIn (s : Site) : Type 0 where
   pub cesl : Within 100 300 (s .cesl)
   pub situation : s .situation ≤ 3
   pub altitude : s .altitude ≤ 1500
+
+-- a set of national figures, of which the recommended is one
+pub record NationalIn (n : National) : Type 0 where
+  pub arch : Within 1 800 (n .arch)
+  pub low : Within 1 800 (n .low)
+  pub high : Within 1 800 (n .high)
+  pub short : Within 1000 30000 (n .short)
+  pub long : Within 1000 30000 (n .long)
 
 pub record SlopeIn (s : Slope) : Type 0 where
   pub pitch : s .pitch ≤ 800

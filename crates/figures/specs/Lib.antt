@@ -1,7 +1,9 @@
 pub mod Bounds
+pub mod National
 pub mod Ranges
 pub mod Refusals
 pub mod RoofRules
 pub mod Rules
 pub mod SiteRules
 pub mod Slopes
+pub mod Store

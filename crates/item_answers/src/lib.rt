@@ -1,24 +1,27 @@
-// What the calls on an item of a sheet answer, as numbers of 32 bits, by what was found there.
+// What the calls on an item of a sheet answer, as numbers of 32 bits, by what was found there. No rule that the finding passed is
+// tested again.
 ghost use mathlib.Core.Path.{_≡_};
 ghost use lib.ListN.{length};
+ghost use Rattle.sheet_figures.specs.Find.{FoundAccepted};
 ghost use Rattle.item_answers.specs.Calls.{makeCode, sliceAfter, loadCode, overhangCode, guardCode};
 use answer_codes::NONE;
 use answer_codes::refusal;
+use arrangement::make_in;
+use code_rules::NO_ARRANGEMENT;
+use reading::load_in;
 use sheet_figures::Finding;
 use sheet_figures::Found;
 
-// The refusal of a code, by document 01's number.
-const NO_ARRANGEMENT: u8 = 13;
-
 // The count of segments of an arrangement, or a refusal.
 pub fn make_at(found: Found, item: usize, code: u8, out: &mut [u32]) -> u32
+    requires { ⌜ FoundAccepted found ⌝ }
     ensures { λ r. ⌜ r ≡ makeCode found item code (length (now (out .entry))) ⌝ }
     ensures { λ _. ⌜ now (out .exit) ≡ sliceAfter found code (now (out .entry)) ⌝ }
 {
     let finding = found.finding;
     match finding {
         Finding::RoofFound => {
-            let answer = arrangement::make(found.site, found.roof, code, out);
+            let answer = make_in(found.national, found.site, found.roof, code, out);
             answer_codes::made(answer, item)
         }
         Finding::NoRoof => refusal(NO_ARRANGEMENT, item),
@@ -28,12 +31,13 @@ pub fn make_at(found: Found, item: usize, code: u8, out: &mut [u32]) -> u32
 
 // The load at a station, or a refusal.
 pub fn load_at(found: Found, item: usize, code: u8, station: u32) -> u32
+    requires { ⌜ FoundAccepted found ⌝ }
     ensures { λ r. ⌜ r ≡ loadCode found item code station ⌝ }
 {
     let finding = found.finding;
     match finding {
         Finding::RoofFound => {
-            let answer = reading::load_at(found.site, found.roof, code, station);
+            let answer = load_in(found.national, found.site, found.roof, code, station);
             answer_codes::load(answer, item)
         }
         Finding::NoRoof => refusal(NO_ARRANGEMENT, item),
@@ -43,12 +47,15 @@ pub fn load_at(found: Found, item: usize, code: u8, station: u32) -> u32
 
 // The overhang at a slope, none, or a refusal.
 pub fn overhang_at(found: Found, item: usize, slope: u8) -> u32
+    requires { ⌜ FoundAccepted found ⌝ }
     ensures { λ r. ⌜ r ≡ overhangCode found item slope ⌝ }
 {
     let finding = found.finding;
     match finding {
         Finding::RoofFound => {
-            let answer = local_forces::overhang(found.site, found.roof, slope);
+            let roof = found.roof;
+            let shape = roof.shape;
+            let answer = local_forces::overhang_at(found.site, shape, slope);
             answer_codes::force(answer, item)
         }
         Finding::NoRoof => NONE,
@@ -58,12 +65,15 @@ pub fn overhang_at(found: Found, item: usize, slope: u8) -> u32
 
 // The force at the guard of a slope, none, or a refusal.
 pub fn guard_force_at(found: Found, item: usize, slope: u8) -> u32
+    requires { ⌜ FoundAccepted found ⌝ }
     ensures { λ r. ⌜ r ≡ guardCode found item slope ⌝ }
 {
     let finding = found.finding;
     match finding {
         Finding::RoofFound => {
-            let answer = local_forces::guard_force(found.site, found.roof, slope);
+            let roof = found.roof;
+            let shape = roof.shape;
+            let answer = local_forces::guard_force_at(found.site, shape, slope);
             answer_codes::force(answer, item)
         }
         Finding::NoRoof => NONE,

@@ -15,26 +15,28 @@ use Rattle.item_rules.specs.Figures.{noSite, siteBy}
 use Rattle.item_rules.specs.Rules.{misplaced, ruleNumber}
 
 -- an item of another variant than the site's is no site, and its number in the first place is that of its misplacement
-pub first-misplaced : (x : Item) (l : List ℕ) → OneOf (1 ∷ 2 ∷ 3 ∷ []) (variant x) → (misplaced x ≡ ruleNumber 0 x l) × (noSite ≡ siteBy x)
-first-misplaced (SiteItem fields) l (inl e) = absurd (omega arith)
-first-misplaced (SiteItem fields) l (inr (inl e)) = absurd (omega arith)
-first-misplaced (SiteItem fields) l (inr (inr e)) = absurd (omega arith)
-first-misplaced (RoofItem shape) l v = (refl, refl)
-first-misplaced (LowerItem lower) l v = (refl, refl)
-first-misplaced (Malformed number) l v = (refl, refl)
+pub first-misplaced :
+    (store : List ℕ) (x : Item) (l : List ℕ) → OneOf (1 ∷ 2 ∷ 3 ∷ []) (variant x) → (misplaced x ≡ ruleNumber store 0 x l) × (noSite ≡ siteBy x)
+first-misplaced store (SiteItem fields) l (inl e) = absurd (omega arith)
+first-misplaced store (SiteItem fields) l (inr (inl e)) = absurd (omega arith)
+first-misplaced store (SiteItem fields) l (inr (inr e)) = absurd (omega arith)
+first-misplaced store (RoofItem shape) l v = (refl, refl)
+first-misplaced store (LowerItem lower) l v = (refl, refl)
+first-misplaced store (Malformed number) l v = (refl, refl)
 
 -- and so for an item that is neither kind of roof in a later place
-pub later-misplaced : (x : Item) (l : List ℕ) → isLower x ≡ false → OneOf (0 ∷ 2 ∷ 3 ∷ []) (variant x) → misplaced x ≡ ruleNumber 1 x l
-later-misplaced (SiteItem fields) l e v = refl
-later-misplaced (RoofItem shape) l e (inl z) = absurd (omega arith)
-later-misplaced (RoofItem shape) l e (inr (inl z)) = absurd (omega arith)
-later-misplaced (RoofItem shape) l e (inr (inr z)) = absurd (omega arith)
-later-misplaced (LowerItem lower) l e v = clash refl e
-later-misplaced (Malformed number) l e v = refl
+pub later-misplaced :
+    (store : List ℕ) (x : Item) (l : List ℕ) → isLower x ≡ false → OneOf (0 ∷ 2 ∷ 3 ∷ []) (variant x) → misplaced x ≡ ruleNumber store 1 x l
+later-misplaced store (SiteItem fields) l e v = refl
+later-misplaced store (RoofItem shape) l e (inl z) = absurd (omega arith)
+later-misplaced store (RoofItem shape) l e (inr (inl z)) = absurd (omega arith)
+later-misplaced store (RoofItem shape) l e (inr (inr z)) = absurd (omega arith)
+later-misplaced store (LowerItem lower) l e v = clash refl e
+later-misplaced store (Malformed number) l e v = refl
 
 -- every index after the first is one place
-pub later : (i : ℕ) (x : Item) (l : List ℕ) → (i ≡ 0 → ⊥) → ruleNumber 1 x l ≡ ruleNumber i x l
-later i (SiteItem fields) l h = let e : i ≡ suc (i - 1) = omega arith in rw e
-later i (RoofItem shape) l h = let e : i ≡ suc (i - 1) = omega arith in rw e
-later i (LowerItem lower) l h = let e : i ≡ suc (i - 1) = omega arith in rw e
-later i (Malformed number) l h = refl
+pub later : (store : List ℕ) (i : ℕ) (x : Item) (l : List ℕ) → (i ≡ 0 → ⊥) → ruleNumber store 1 x l ≡ ruleNumber store i x l
+later store i (SiteItem fields) l h = let e : i ≡ suc (i - 1) = omega arith in rw e
+later store i (RoofItem shape) l h = let e : i ≡ suc (i - 1) = omega arith in rw e
+later store i (LowerItem lower) l h = let e : i ≡ suc (i - 1) = omega arith in rw e
+later store i (Malformed number) l h = refl

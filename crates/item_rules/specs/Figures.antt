@@ -3,6 +3,7 @@ use Prim.Native.Nat.{ℕ}
 use mathlib.Core.Bool.{false}
 use mathlib.Core.List.{List}
 use Rattle.figures.specs.RoofRules.{noSpans, roofOf}
+use Rattle.figures.specs.declared.site.JobDay.the-variants.{Undated}
 use Rattle.figures.specs.declared.site.Site.{Site}
 use Rattle.figures.specs.declared.roof.Shape.{Shape}
 use Rattle.figures.specs.declared.roof.Shape.the-variants.{MultiSpan}
@@ -14,7 +15,7 @@ use Rattle.stepped_roofs.specs.Stepped.{upperShape, steppedShape}
 
 -- a site and a roof of zeros, where there is none
 abbrev pub noSite : Site
-noSite = record { sk = 0; ce = 0; ct = 0; cesl = 0; situation = 0; altitude = 0 }
+noSite = record { sk = 0; ce = 0; ct = 0; cesl = 0; situation = 0; altitude = 0; day = Undated }
 
 abbrev pub noShape : Shape
 noShape = MultiSpan 0 false

@@ -2,10 +2,13 @@
 use Prim.Native.Nat.{ℕ, zero, suc, _<_}
 use mathlib.Core.List.{List, [], _∷_}
 use mathlib.Core.Path.{_≡_, refl}
+use lib.ListN.{replicate}
 use native.Mathlib.Omega.{arith}
 use Rattle.figures.specs.RoofRules.{shapeRefusal}
 use Rattle.figures.specs.Rules.{firstOf}
 use Rattle.figures.specs.SiteRules.{siteRefusal}
+use Rattle.figures.specs.Store.{setsSound, storeRefusal, setInUse, dayRefusal, figuresInUse}
+use Rattle.item_rules.specs.Rules.{jobRefusal}
 use Rattle.force_rows.specs.Rows.{slopeRows, forceRows}
 use Rattle.roof_rows.specs.Rows.{segmentRows, codeRows, codesRows, arrangementRows}
 use Rattle.roof_rows.specs.Rows.{roofRows}
@@ -22,13 +25,13 @@ use Rattle.rounding.specs.Load.{breakLoad}
 use Rattle.rounding.specs.Ramp.{reading}
 use Rattle.rounding.specs.Up.{ceilDiv, roundedUp}
 use Rattle.items.specs.Items.{byKind, content}
-use Rattle.site_items.specs.SiteItems.{siteItem, mapSiteItem}
+use Rattle.site_items.specs.SiteItems.{dayAt, siteSized, siteItem, mapSiteItem}
 use Rattle.roof_items.specs.RoofItems.{monopitchItem}
 use Rattle.item_forms.specs.Forms.{sized}
-use Rattle.sheet_figures.specs.Find.{sheetSite, sheetRoof}
+use Rattle.sheet_figures.specs.Find.{sheetSite, sheetNational, sheetRoof}
 use Rattle.sheet_figures.specs.MapSites.{givenItem, GivenLoad}
 use Rattle.pairs.specs.Pairs.{pairNumber, inTurn, pairsVerdict, part}
-use Rattle.sheet.specs.Sheet.{itemNumber, sheetVerdict}
+use Rattle.sheet.specs.Sheet.{itemNumber, rulesVerdict, storeVerdict, sheetVerdict}
 use Rattle.standard.specs.Arrangements.{factorOf, countIn, stretchIn, exists, count, stretch}
 use Rattle.standard.specs.Codes.{existsIn}
 use Rattle.standard.specs.Coefficients.{mu1, guarded}
@@ -38,6 +41,10 @@ use Rattle.standard.specs.Monopitch.{monopitch}
 use Rattle.standard.specs.Sine.{sineReference, sineEntry}
 use Rattle.standard.specs.Stretch.{load, readIn, startOf, segment}
 use Rattle.text.specs.Text.{decimal}
+
+-- the empty store
+abbrev empty : List ℕ
+empty = replicate 193 0
 
 -- 02 00 0A 00 0E 00 ..
 abbrev sheet : List ℕ
@@ -69,10 +76,10 @@ mapText =
     49 ∷ 32 ∷ 49 ∷ 32 ∷ 48 ∷ 32 ∷ 50 ∷ 48 ∷ 48 ∷ 48 ∷ 48 ∷ 32 ∷ 49 ∷ 53 ∷ 50 ∷ 51 ∷ 32 ∷ 49 ∷ 53 ∷ 50 ∷ 51 ∷ 10 ∷
     49 ∷ 32 ∷ 50 ∷ 50 ∷ 32 ∷ 49 ∷ 32 ∷ 51 ∷ 56 ∷ 48 ∷ 56 ∷ 10 ∷ []
 
-pub example : (listing sheet ≡ text) × (listing mapSheet ≡ mapText)
-unfolding listing listingBy roofsRows itemRows order firstRoofs added nextRoof ready lowest listed upper roofRows arrangementRows codesRows codeRows segmentRows forceRows slopeRows sheetSite sheetRoof
-    sheetVerdict uppersVerdict upperNumber circleNumber comesBack meets pairsVerdict inTurn pairNumber itemNumber content byKind siteItem mapSiteItem monopitchItem sized
-    siteDataRefusal mapRefusal groundLoad expression zoneLoad rowOf rows siteRefusal shapeRefusal firstOf
+pub example : (listing empty sheet ≡ text) × (listing empty mapSheet ≡ mapText)
+unfolding listing listingBy roofsRows itemRows order firstRoofs added nextRoof ready lowest listed upper roofRows arrangementRows codesRows codeRows segmentRows forceRows slopeRows sheetSite sheetNational sheetRoof
+    sheetVerdict storeVerdict storeRefusal setsSound rulesVerdict uppersVerdict upperNumber circleNumber comesBack meets pairsVerdict inTurn pairNumber itemNumber content byKind siteItem mapSiteItem siteSized dayAt monopitchItem sized
+    jobRefusal dayRefusal figuresInUse setInUse siteDataRefusal mapRefusal groundLoad expression zoneLoad rowOf rows siteRefusal shapeRefusal firstOf
     exists existsIn count countIn stretch stretchIn factorOf monopitch
     mu1 guarded segment startOf readIn load reading breakLoad roundedUp ceilDiv larger
     slopeAt slopeLoad wholeLoad overhangAt guardAt guardForce guardRule sineEntry sineReference
@@ -91,8 +98,8 @@ other zero a b = absurd (omega arith)
 other (suc zero) a b = refl
 other (suc (suc i)) a b = absurd (omega arith)
 
-pub beside : GivenLoad mapSheet givenSheet 2
-unfolding pairsVerdict inTurn pairNumber itemNumber content byKind mapSiteItem sized siteDataRefusal mapRefusal groundLoad expression zoneLoad rowOf rows
+pub beside : GivenLoad empty mapSheet givenSheet 2
+unfolding pairsVerdict inTurn pairNumber itemNumber content byKind mapSiteItem siteSized dayAt jobRefusal dayRefusal setInUse siteDataRefusal mapRefusal groundLoad expression zoneLoad rowOf rows
     firstOf roundedUp ceilDiv sheetSite givenItem
 beside =
     record {

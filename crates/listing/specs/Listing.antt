@@ -7,8 +7,8 @@ use lib.ListN.{length, drop}
 use Rattle.ceilings.specs.Ceilings.{terminals}
 use Rattle.pairs.specs.Pairs.{Answer, accepted, refused}
 use Rattle.sheet.specs.Sheet.{sheetVerdict}
+use Rattle.sheet_figures.specs.Find.{sheetNational}
 use Rattle.sheet_rows.specs.SheetRows.{roofsRows}
-use Rattle.standard.specs.Coefficients.{recommendedFigures}
 use Rattle.text.specs.Text.{row}
 use Rattle.upper_items.specs.Uppers.{roofOrder}
 
@@ -23,24 +23,25 @@ abbrev pub refusedRow : ℕ → ℕ → List ℕ
 refusedRow number item = (82 ∷ 69 ∷ 70 ∷ 85 ∷ 83 ∷ 69 ∷ 68 ∷ 32 ∷ []) ++ row (number ∷ item ∷ [])
 
 -- the header, then the roofs in their order, document 02, A7; "A refused sheet gives one line only"
-unfoldable pub listingBy : Answer ℕ → List ℕ → List ℕ
-listingBy (accepted n) sheet = header ++ roofsRows recommendedFigures sheet (roofOrder sheet n) (n - 1)
-listingBy (refused number item) sheet = refusedRow number item
+unfoldable pub listingBy : List ℕ → Answer ℕ → List ℕ → List ℕ
+listingBy store (accepted n) sheet = header ++ roofsRows (sheetNational store sheet) sheet (roofOrder sheet n) (n - 1)
+listingBy store (refused number item) sheet = refusedRow number item
 
-unfoldable pub listing : List ℕ → List ℕ
-listing sheet = listingBy (sheetVerdict terminals sheet) sheet
+-- the listing of a sheet that is read with a store; "The program snowlist has an empty store" (document 02, A8)
+unfoldable pub listing : List ℕ → List ℕ → List ℕ
+listing store sheet = listingBy store (sheetVerdict store terminals sheet) sheet
 
 -- room for the listing of any sheet: the header of 29 bytes, and for each of 31 roofs 128 rows of 66 bytes and 4 of 44
 abbrev pub listRoom : ℕ
 listRoom = 267373
 
 -- the bytes that are written: none where the room is too small
-unfoldable pub listed : List ℕ → ℕ → ℕ
-listed sheet room = cond (ltb room listRoom) 0 (length (listing sheet))
+unfoldable pub listed : List ℕ → List ℕ → ℕ → ℕ
+listed store sheet room = cond (ltb room listRoom) 0 (length (listing store sheet))
 
 -- what is left in the lent bytes: the listing at their front and their old contents behind it
-unfoldable pub bytesAfter : List ℕ → List ℕ → List ℕ
-bytesAfter sheet old = cond (ltb (length old) listRoom) old (listing sheet ++ drop (length (listing sheet)) old)
+unfoldable pub bytesAfter : List ℕ → List ℕ → List ℕ → List ℕ
+bytesAfter store sheet old = cond (ltb (length old) listRoom) old (listing store sheet ++ drop (length (listing store sheet)) old)
 
 -- the numbers that are lent to the maker for each arrangement: what they hold afterwards is free
 abbrev pub Free : List ℕ → Type 0

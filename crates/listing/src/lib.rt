@@ -19,28 +19,34 @@ use sheet_rows::list_roofs;
 pub const LIST_ROOM: usize = 267_373;
 
 // Writes the listing of an accepted sheet.
-fn list_accepted(sheet: &[u8], n: usize, numbers: &mut [u32; NUMBERS], out: &mut [u8]) -> usize
-    requires { ⌜ (sheetVerdict terminals (now sheet) ≡ accepted n) × (listRoom ≤ length (now out)) ⌝ }
-    ensures { λ r. ⌜ Wrote (now (out .entry)) 0 (listingBy (accepted n) (now (sheet .entry))) (now (out .exit)) r ⌝ }
+fn list_accepted(
+    store: &[u32],
+    sheet: &[u8],
+    n: usize,
+    numbers: &mut [u32; NUMBERS],
+    out: &mut [u8],
+) -> usize
+    requires { ⌜ (sheetVerdict (now store) terminals (now sheet) ≡ accepted n) × (listRoom ≤ length (now out)) ⌝ }
+    ensures { λ r. ⌜ Wrote (now (out .entry)) 0 (listingBy (now (store .entry)) (accepted n) (now (sheet .entry))) (now (out .exit)) r ⌝ }
 {
     let a = rows::put_header(out);
-    list_roofs(sheet, n, numbers, out, a)
+    list_roofs(store, sheet, n, numbers, out, a)
 }
 
-// Writes the listing of any bytes as a sheet at the front of the lent bytes, and answers how many bytes it has. Where
+// Writes the listing of any bytes as a sheet, read with any numbers as a store, at the front of the lent bytes, and answers how many bytes it has. Where
 // there are fewer than LIST_ROOM nothing is written and 0 is answered. The numbers are lent to the maker for each
 // arrangement; what they hold afterwards is free.
-pub fn list(sheet: &[u8], numbers: &mut [u32; NUMBERS], out: &mut [u8]) -> usize
-    ensures answer { λ r. ⌜ r ≡ listed (now (sheet .entry)) (length (now (out .entry))) ⌝ }
-    ensures written { λ _. ⌜ now (out .exit) ≡ bytesAfter (now (sheet .entry)) (now (out .entry)) ⌝ }
+pub fn list(store: &[u32], sheet: &[u8], numbers: &mut [u32; NUMBERS], out: &mut [u8]) -> usize
+    ensures answer { λ r. ⌜ r ≡ listed (now (store .entry)) (now (sheet .entry)) (length (now (out .entry))) ⌝ }
+    ensures written { λ _. ⌜ now (out .exit) ≡ bytesAfter (now (store .entry)) (now (sheet .entry)) (now (out .entry)) ⌝ }
     ensures within { λ r. ⌜ r ≤ length (now (out .exit)) ⌝ }
     ensures free { λ _. ⌜ Free (now (numbers .exit)) ⌝ }
 {
     if out.len() < LIST_ROOM {
         return 0;
     }
-    match verdict(sheet, Caller::Terminal) {
+    match verdict(store, sheet, Caller::Terminal) {
         Verdict::Refused(number, item) => rows::put_refused(out, number as u32, item as u32),
-        Verdict::Accepted(n) => list_accepted(sheet, n, numbers, out),
+        Verdict::Accepted(n) => list_accepted(store, sheet, n, numbers, out),
     }
 }

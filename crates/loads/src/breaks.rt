@@ -7,20 +7,20 @@ ghost use Rattle.rounding.specs.Fraction.{over};
 ghost use Rattle.rounding.specs.Load.{breakLoad};
 ghost use Rattle.rounding.specs.Up.{roundedUp};
 ghost use Rattle.standard.specs.Abutting.{abuttingLength, wallLoad};
-ghost use Rattle.standard.specs.Bounds.{NationalIn};
+ghost use Rattle.figures.specs.Bounds.{NationalIn};
 ghost use Rattle.standard.specs.Coefficients.{slopeMu, valleyMu, mu3};
 ghost use Rattle.standard.specs.Pitched.{halved};
 ghost use Rattle.standard.specs.Projection.{projectionLoad};
 ghost use Rattle.standard.specs.Stretch.{loadAlone, eightTenths};
 ghost use Rattle.standard.specs.Units.{parts, largestPart, largestBreak};
-use crate::coefficients::arch_numerator;
-use crate::coefficients::projection_numerator;
-use crate::coefficients::slide_numerator;
-use crate::coefficients::slope_numerator;
-use crate::coefficients::valley_numerator;
-use crate::coefficients::wind_numerator;
+use figures::National;
 use figures::Slope;
-use standard::National;
+use shape_coefficients::arch_numerator;
+use shape_coefficients::projection_numerator;
+use shape_coefficients::slide_numerator;
+use shape_coefficients::slope_numerator;
+use shape_coefficients::valley_numerator;
+use shape_coefficients::wind_numerator;
 
 // The load n / (d × 1,000,000) in tenths, rounded up: a factor is in millionths, so a tenth is 100,000 of them.
 fn up(n: u64, d: u64) -> u64

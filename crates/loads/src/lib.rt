@@ -1,7 +1,6 @@
 // The break loads of every kind of roof in tenths of a N/m², each part rounded up, and the lengths of drifts and loaded arches.
 // These calls are for the crates above: what they require, accepted figures keep.
 mod breaks;
-mod coefficients;
 mod lengths;
 
 pub use breaks::arch_load;

@@ -1,5 +1,6 @@
 -- What the calls' tests make of the answers, and products that fit 64 bits.
 use Prim.Native.Nat.{ℕ, _*_, _≤_, _<_}
+use mathlib.Core.List.{List}
 use mathlib.Core.Path.{_≡_}
 use mir.Syntax.{w64}
 use mir.Val.{Fits}
@@ -24,20 +25,20 @@ module _ (a b : ℕ) (h : a ≤ 1000000) (k : b ≤ 1000000) where
   three-fit c l = omega (arith, mul-le-mul (mul-le-mul h k) l)
 
 -- what the calls answer: the first broken rule, or the force at the slope
-module _ (site : Site) (roof : Roof) (n : ℕ) where
-  pub overhang-refused : (k : ℕ) → k ≡ figuresRefusal site roof → (k ≡ 0 → ⊥) → refused k ≡ overhangAnswer site roof n
+module _ (store : List ℕ) (site : Site) (roof : Roof) (n : ℕ) where
+  pub overhang-refused : (k : ℕ) → k ≡ figuresRefusal store site roof → (k ≡ 0 → ⊥) → refused k ≡ overhangAnswer store site roof n
   unfolding overhangAnswer
   overhang-refused k e h = rw (← e, ne-eqb k 0 h)
 
-  pub overhang-accepted : figuresRefusal site roof ≡ 0 → overhangAt site (roof .shape) n ≡ overhangAnswer site roof n
+  pub overhang-accepted : figuresRefusal store site roof ≡ 0 → overhangAt site (roof .shape) n ≡ overhangAnswer store site roof n
   unfolding overhangAnswer
   overhang-accepted v = rw v
 
-  pub guard-refused : (k : ℕ) → k ≡ figuresRefusal site roof → (k ≡ 0 → ⊥) → refused k ≡ guardAnswer site roof n
+  pub guard-refused : (k : ℕ) → k ≡ figuresRefusal store site roof → (k ≡ 0 → ⊥) → refused k ≡ guardAnswer store site roof n
   unfolding guardAnswer
   guard-refused k e h = rw (← e, ne-eqb k 0 h)
 
-  pub guard-accepted : figuresRefusal site roof ≡ 0 → guardAt site (slopeAt (roof .shape) n) ≡ guardAnswer site roof n
+  pub guard-accepted : figuresRefusal store site roof ≡ 0 → guardAt site (slopeAt (roof .shape) n) ≡ guardAnswer store site roof n
   unfolding guardAnswer
   guard-accepted v = rw v
 

@@ -42,11 +42,11 @@ pub fn overhang_at(site: Site, shape: Shape, slope: u8) -> LocalForce
 }
 
 // The overhang at the eave of a slope.
-pub fn overhang(site: Site, roof: Roof, slope: u8) -> LocalForce
-    ensures answer { λ r. ⌜ forceMeans r ≡ overhangAnswer site roof slope ⌝ }
+pub fn overhang(store: &[u32], site: Site, roof: Roof, slope: u8) -> LocalForce
+    ensures answer { λ r. ⌜ forceMeans r ≡ overhangAnswer (now (store .entry)) site roof slope ⌝ }
     ensures distance { λ r. ⌜ overhangDistance (forceMeans r) (largerUnrounded site (roof .shape)) (slopeAt (roof .shape) slope) ⌝ }
 {
-    let number = roof_rules::refusal(site, roof);
+    let number = figure_rules::refusal(store, site, roof);
     if number != 0 {
         return LocalForce::Refused(number);
     }

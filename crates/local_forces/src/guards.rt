@@ -48,11 +48,11 @@ pub fn guard_force_at(site: Site, shape: Shape, slope: u8) -> LocalForce
 }
 
 // The force at the guard of a slope.
-pub fn guard_force(site: Site, roof: Roof, slope: u8) -> LocalForce
-    ensures answer { λ r. ⌜ forceMeans r ≡ guardAnswer site roof slope ⌝ }
+pub fn guard_force(store: &[u32], site: Site, roof: Roof, slope: u8) -> LocalForce
+    ensures answer { λ r. ⌜ forceMeans r ≡ guardAnswer (now (store .entry)) site roof slope ⌝ }
     ensures distance { λ r. ⌜ guardDistance (forceMeans r) site (slopeAt (roof .shape) slope) ⌝ }
 {
-    let number = roof_rules::refusal(site, roof);
+    let number = figure_rules::refusal(store, site, roof);
     if number != 0 {
         return LocalForce::Refused(number);
     }

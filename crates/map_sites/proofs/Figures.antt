@@ -4,6 +4,7 @@ use mathlib.Core.List.{[], _∷_}
 use mathlib.Core.Path.{_≡_, refl}
 use Rattle.figures.specs.Rules.{firstOf}
 use Rattle.figures.specs.declared.site.Ground.the-variants.{OnMap}
+use Rattle.figures.specs.declared.site.JobDay.the-variants.{Undated}
 use Rattle.figures.specs.declared.site.SiteData.{SiteData}
 use Rattle.ground_loads.specs.Map.{rows, rowOf, zoneLoad, expression, groundLoad}
 use Rattle.rounding.specs.Up.{ceilDiv, roundedUp}
@@ -19,7 +20,7 @@ unfolding mapRefusal firstOf groundLoad expression zoneLoad rowOf rows roundedUp
 refusals = refl
 
 abbrev siteAt : ℕ → ℕ → ℕ → ℕ → SiteData
-siteAt region zone ce altitude = record { ground = OnMap region zone; ce = ce; ct = 100; cesl = 200; situation = 0; altitude = altitude }
+siteAt region zone ce altitude = record { ground = OnMap region zone; ce = ce; ct = 100; cesl = 200; situation = 0; altitude = altitude; day = Undated }
 
 -- the other fields before all of these
 pub site-refusals :

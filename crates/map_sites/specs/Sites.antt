@@ -40,7 +40,7 @@ skOf (OnMap region zone) altitude = groundLoad region zone altitude
 -- the site with a ground load and the other fields of an item
 abbrev pub siteWith : ℕ → SiteData → Site
 siteWith sk d =
-    record { sk = sk; ce = d .ce; ct = d .ct; cesl = d .cesl; situation = d .situation; altitude = d .altitude }
+    record { sk = sk; ce = d .ce; ct = d .ct; cesl = d .cesl; situation = d .situation; altitude = d .altitude; day = d .day }
 
 -- the site that an item's data are; on the map "the site is the kind 1 site with it"
 abbrev pub siteFrom : SiteData → Site
@@ -56,9 +56,10 @@ asGiven d =
       cesl = d .cesl;
       situation = d .situation;
       altitude = d .altitude;
+      day = d .day;
     }
 
--- the first value rule that an item's site breaks, 0 for none: with a given load 6 and 7, on the map 6, 7, 14 and 15
+-- the first rule that an item's site breaks by its own values, 0 for none: with a given load 6 and 7, on the map 6, 7, 14 and 15
 abbrev pub refusalBy : Ground → SiteData → ℕ
 refusalBy (Given sk) d = siteRefusal (siteWith sk d)
 refusalBy (OnMap region zone) d =

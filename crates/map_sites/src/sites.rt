@@ -19,6 +19,7 @@ use site_rules::site_refusal;
 fn site_with(sk: u32, fields: SiteData) -> Site
     ensures { λ r. ⌜ r ≡ siteWith sk fields ⌝ }
 {
+    let day = fields.day;
     Site {
         sk: sk,
         ce: fields.ce,
@@ -26,6 +27,7 @@ fn site_with(sk: u32, fields: SiteData) -> Site
         cesl: fields.cesl,
         situation: fields.situation,
         altitude: fields.altitude,
+        day: day,
     }
 }
 
@@ -40,7 +42,7 @@ fn map_site_refusal(region: u8, zone: u8, fields: SiteData) -> u8
     first(number, map_refusal(region, zone, fields.altitude))
 }
 
-// The number of the first value rule that an item's site breaks, 0 where it breaks none.
+// The number of the first rule that an item's site breaks by its own values, 0 where it breaks none.
 pub fn site_data_refusal(fields: SiteData) -> u8
     ensures { λ r. ⌜ r ≡ siteDataRefusal fields ⌝ }
 {

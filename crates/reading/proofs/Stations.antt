@@ -1,5 +1,6 @@
 -- What the tests on a station make of a reading, one segment more, and what the call's answer is.
 use Prim.Native.Nat.{ℕ, _+_, _-_, _≤_, _<_, max}
+use mathlib.Core.List.{List}
 use mathlib.Core.Path.{_≡_, _∙_}
 use borrow.Author.Tests.{le-leb, lt-leb}
 use native.Mathlib.Numerals.{add-one}
@@ -7,14 +8,13 @@ use Rattle.figures.specs.declared.site.Site.{Site}
 use Rattle.figures.specs.declared.roof.Roof.{Roof}
 use Rattle.ramps.specs.Ramps.{rampOf, readRamp}
 use Rattle.ramps.specs.declared.Ramp.{Ramp}
-use Rattle.standard.specs.Answers.{value, refused, stationAnswer, loadAnswer}
+use Rattle.standard.specs.Answers.{value, refused, nationalFor, stationAnswer, loadAnswer}
 use Rattle.standard.specs.Arrangements.{count, stretch, endOf, endIn, loadInParts}
-use Rattle.standard.specs.Coefficients.{recommendedFigures}
 use Rattle.standard.specs.Stretch.{Stretch, readIn, startOf, holds, readingAt, greatest}
 use Rattle.standard.specs.Units.{parts}
-use Rattle.standard.specs.declared.National.{National}
+use Rattle.figures.specs.declared.national.National.{National}
 use Rattle.standard.proofs.Answered.{answers-near, answers-rise}
-use Rattle.standard.proofs.Demand.{Alike, recommended-in}
+use Rattle.standard.proofs.Demand.{Alike}
 use Rattle.reading.specs.Reading.{readingMeans, valueOf, distanceOf, InOrder}
 use Rattle.reading.specs.declared.Reading.{Reading}
 use Rattle.reading.specs.declared.Reading.the-variants.{Load, Refused}
@@ -52,14 +52,15 @@ module _ (national : National) (s : Site) (r : Roof) (code p end : ℕ) (e : end
 
 -- what is answered as a load lies near the exact rule
 pub near-answer :
-    (s : Site) (r : Roof) (code p : ℕ) (a : Reading) → readingMeans a ≡ loadAnswer recommendedFigures s r code p → distanceOf s r code p a
-near-answer s r code p (Load x) e = answers-near recommendedFigures s r code p x recommended-in (cc)
-near-answer s r code p (Refused number) e = tt
+    (store : List ℕ) (s : Site) (r : Roof) (code p : ℕ) (a : Reading) → readingMeans a ≡ loadAnswer store s r code p
+    → distanceOf (nationalFor store s) s r code p a
+near-answer store s r code p (Load x) e = answers-near store s r code p x (cc)
+near-answer store s r code p (Refused number) e = tt
 
--- demand 3, of two answers of the call, for sites that differ in sk alone: the load never falls as the ground load rises
+-- demand 3, of two answers of the call, for sites that differ in sk alone and use equal sets: the load never falls as the ground load rises
 pub rising-answers :
-    (s t : Site) (r : Roof) (code p : ℕ) (a b : Reading) → Alike s t → s .sk ≤ t .sk
-    → readingMeans a ≡ loadAnswer recommendedFigures s r code p → readingMeans b ≡ loadAnswer recommendedFigures t r code p → InOrder a b
-rising-answers s t r code p (Load x) (Load y) l h e f = answers-rise recommendedFigures s t r code p x y recommended-in l h (cc) (cc)
-rising-answers s t r code p (Load x) (Refused number) l h e f = tt
-rising-answers s t r code p (Refused number) b l h e f = tt
+    (c d : List ℕ) (s t : Site) (r : Roof) (code p : ℕ) (a b : Reading) → Alike s t → nationalFor c s ≡ nationalFor d t → s .sk ≤ t .sk
+    → readingMeans a ≡ loadAnswer c s r code p → readingMeans b ≡ loadAnswer d t r code p → InOrder a b
+rising-answers c d s t r code p (Load x) (Load y) l u h e f = answers-rise c d s t r code p x y l u h (cc) (cc)
+rising-answers c d s t r code p (Load x) (Refused number) l u h e f = tt
+rising-answers c d s t r code p (Refused number) b l u h e f = tt

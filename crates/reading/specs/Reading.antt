@@ -1,13 +1,13 @@
 -- What the call that reads a load at a station answers, and how far a load that it answers lies above the exact rule.
 use Prim.Native.Nat.{ℕ, _-_, _≤_}
 use mathlib.Core.Bool.{cond}
+use Rattle.figures.specs.declared.national.National.{National}
 use Rattle.figures.specs.declared.site.Site.{Site}
 use Rattle.figures.specs.declared.roof.Roof.{Roof}
 use Rattle.ramps.specs.Ramps.{readRamp}
 use Rattle.ramps.specs.declared.Ramp.{Ramp}
 use Rattle.standard.specs.Answers.{Answer, value, refused}
 use Rattle.standard.specs.Arrangements.{exactAt, NearExact}
-use Rattle.standard.specs.Coefficients.{recommendedFigures}
 use Rattle.standard.specs.Stretch.{holds}
 use Rattle.reading.specs.declared.Reading.{Reading}
 use Rattle.reading.specs.declared.Reading.the-variants.{Load, Refused}
@@ -21,10 +21,10 @@ readingMeans (Refused number) = refused number
 unfoldable pub valueOf : Ramp → ℕ → ℕ → ℕ
 valueOf r start p = cond (holds start (r .extent) p) (readRamp r (p - start)) 0
 
--- whatever is answered as a load lies at or above the exact rule, and less than 1.2 N/m² above it
-abbrev pub distanceOf : Site → Roof → ℕ → ℕ → Reading → Type 0
-distanceOf site roof code p (Load x) = NearExact x (exactAt recommendedFigures site roof code p)
-distanceOf site roof code p (Refused number) = Unit
+-- whatever is answered as a load lies at or above the exact rule of the national figures in use, and less than 1.2 N/m² above it
+abbrev pub distanceOf : National → Site → Roof → ℕ → ℕ → Reading → Type 0
+distanceOf national site roof code p (Load x) = NearExact x (exactAt national site roof code p)
+distanceOf national site roof code p (Refused number) = Unit
 
 -- of two loads, the second is no less; a refusal owes nothing
 abbrev pub InOrder : Reading → Reading → Type 0

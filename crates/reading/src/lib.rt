@@ -4,18 +4,20 @@ ghost use Prim.Native.Nat.{_≤_};
 ghost use Rattle.figures.specs.RoofRules.{roofOf};
 ghost use Rattle.reading.specs.Reading.{readingMeans, valueOf, distanceOf};
 ghost use Rattle.ramps.specs.Ramps.{RampIn};
-ghost use Rattle.standard.specs.Answers.{stationAnswer, loadAnswer};
+ghost use Rattle.standard.specs.Answers.{nationalFor, stationAnswer, loadIn, loadAnswer};
 ghost use Rattle.standard.specs.Arrangements.{count, stretch};
 ghost use Rattle.standard.specs.Bounds.{FiguresIn};
-ghost use Rattle.standard.specs.Coefficients.{recommendedFigures};
 ghost use Rattle.standard.specs.Stretch.{greatest};
 ghost use Rattle.standard.specs.Units.{parts, largestPosition, largestLoad};
+use code_rules::NO_ARRANGEMENT;
+use code_rules::has_arrangement;
+use figures::National;
 use figures::Roof;
 use figures::SPAN_NUMBERS;
 use figures::Shape;
 use figures::Site;
 use segments::Ramp;
-use standard::National;
+use sets_in_use::figures_for;
 
 // The refusal of a station, by document 01's number.
 const PAST_THE_END: u8 = 12;
@@ -66,11 +68,10 @@ fn greatest_reading(
 }
 
 // The load at a station of accepted figures, where it lies on the roof.
-fn load_accepted(site: Site, roof: Roof, code: u8, station: u32) -> Reading
-    requires { ⌜ FiguresIn recommendedFigures site roof ⌝ }
-    ensures { λ r. ⌜ readingMeans r ≡ stationAnswer recommendedFigures site roof code station ⌝ }
+fn load_accepted(national: National, site: Site, roof: Roof, code: u8, station: u32) -> Reading
+    requires { ⌜ FiguresIn national site roof ⌝ }
+    ensures { λ r. ⌜ readingMeans r ≡ stationAnswer national site roof code station ⌝ }
 {
-    let national = standard::recommended();
     let shape = roof.shape;
     let spans = roof.spans;
     if segments::end(shape, &spans) < station as u64 {
@@ -81,14 +82,29 @@ fn load_accepted(site: Site, roof: Roof, code: u8, station: u32) -> Reading
     Reading::Load(load as u32)
 }
 
-// The load at a station in quarter millimetres from the roof's left end, or the first broken rule.
-pub fn load_at(site: Site, roof: Roof, code: u8, station: u32) -> Reading
-    ensures answer { λ r. ⌜ readingMeans r ≡ loadAnswer recommendedFigures site roof code station ⌝ }
-    ensures distance { λ r. ⌜ distanceOf site roof code station r ⌝ }
+// The load at a station of accepted figures, where the roof has the arrangement. For the crates above, which have the national figures
+// in use.
+pub fn load_in(national: National, site: Site, roof: Roof, code: u8, station: u32) -> Reading
+    requires { ⌜ FiguresIn national site roof ⌝ }
+    ensures { λ r. ⌜ readingMeans r ≡ loadIn national site roof code station ⌝ }
 {
-    let number = code_rules::refusal(site, roof, code);
+    let shape = roof.shape;
+    if !has_arrangement(site, shape, code) {
+        return Reading::Refused(NO_ARRANGEMENT);
+    }
+    load_accepted(national, site, roof, code, station)
+}
+
+// The load at a station in quarter millimetres from the roof's left end, with the national figures that the site's job uses; or the
+// first broken rule.
+pub fn load_at(store: &[u32], site: Site, roof: Roof, code: u8, station: u32) -> Reading
+    ensures answer { λ r. ⌜ readingMeans r ≡ loadAnswer (now (store .entry)) site roof code station ⌝ }
+    ensures distance { λ r. ⌜ distanceOf (nationalFor (now (store .entry)) site) site roof code station r ⌝ }
+{
+    let number = figure_rules::refusal(store, site, roof);
     if number != 0 {
         return Reading::Refused(number);
     }
-    load_accepted(site, roof, code, station)
+    let day = site.day;
+    load_in(figures_for(store, day), site, roof, code, station)
 }

@@ -17,7 +17,7 @@ use Rattle.roof_rows.specs.Rows.{codeRows, codesRows, arrangementRows, r
 use Rattle.standard.specs.Arrangements.{exists, count}
 use Rattle.standard.specs.Bounds.{FiguresIn}
 use Rattle.standard.specs.Codes.{driftsIn, baseCode, namesValley, highestCode, lastCode}
-use Rattle.standard.specs.declared.National.{National}
+use Rattle.figures.specs.declared.national.National.{National}
 use Rattle.standard.proofs.Codes.{persistent-codes, base-persistent, with-drifts, named-base, codes-in, last-highest}
 use Rattle.standard.proofs.Demand.{well-formed, few-segments}
 

@@ -14,7 +14,7 @@ use Rattle.roof_rows.specs.Rows.{segmentRows, codeRows, codesRows, arran
 use Rattle.standard.specs.Arrangements.{exists, count, stretch}
 use Rattle.standard.specs.Bounds.{FiguresIn}
 use Rattle.standard.specs.Codes.{highestCode}
-use Rattle.standard.specs.declared.National.{National}
+use Rattle.figures.specs.declared.national.National.{National}
 
 module _ (national : National) (s : Site) (r : Roof) (item : ℕ) where
   code-by : (b : Bool) (code n : ℕ) → length (cond b (segmentRows (stretch national s r code) item code n) []) ≤ 66 * cond b n 0

@@ -12,7 +12,7 @@ use Rattle.roof_rows.specs.Rows.{segmentRows, codeRows, codesRows}
 use Rattle.roof_rows.specs.Rows.{rowCount, rowCounts}
 use Rattle.segment_rows.specs.Rows.{sliceRows}
 use Rattle.standard.specs.Arrangements.{exists, count, stretch}
-use Rattle.standard.specs.declared.National.{National}
+use Rattle.figures.specs.declared.national.National.{National}
 use Rattle.standard.specs.Stretch.{Stretch, readIn, startOf, segment, segments}
 use Rattle.standard.specs.Units.{parts}
 use Rattle.standard.proofs.Segments.{place}

@@ -9,7 +9,7 @@ use Rattle.standard.specs.Arrangements.{exists, count, stretch}
 use Rattle.standard.specs.Codes.{highestCode}
 use Rattle.standard.specs.Stretch.{Stretch, segment}
 use Rattle.standard.specs.Units.{parts}
-use Rattle.standard.specs.declared.National.{National}
+use Rattle.figures.specs.declared.national.National.{National}
 use Rattle.text.specs.Text.{row}
 
 -- "one line a segment: item, code, start, end, load, load": the first k segments

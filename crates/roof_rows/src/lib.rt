@@ -10,6 +10,7 @@ ghost use Rattle.standard.specs.Bounds.{FiguresIn};
 ghost use Rattle.text.specs.Text.{Wrote};
 use codes::has_code;
 use codes::last_code;
+use figures::National;
 use figures::Roof;
 use figures::SPAN_NUMBERS;
 use figures::Shape;
@@ -18,7 +19,7 @@ use figures::kind_of;
 use figures::span_count;
 use force_rows::list_forces;
 use segment_rows::list_segments;
-use standard::National;
+use written_segments::write;
 
 // The numbers of the largest arrangement: 32 segments, four numbers each.
 pub const NUMBERS: usize = 128;
@@ -40,7 +41,7 @@ fn list_arrangement(
     ensures { λ r. ⌜ r ≤ at + 66 * rowCount national site (roofOf shape (now (spans .entry))) code ⌝ }
 {
     let n = segments::count(national, site, shape, spans, code);
-    arrangement::write(national, site, shape, spans, code, n, numbers);
+    write(national, site, shape, spans, code, n, numbers);
     list_segments(numbers, n, item, code as u32, out, at)
 }
 

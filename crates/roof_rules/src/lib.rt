@@ -1,19 +1,15 @@
-// The value rules on a roof, refusals 8, 9 and 10, by its shape; and the refusal of a site and a roof.
+// The value rules on a roof, refusals 8, 9 and 10, by its shape.
 ghost use mathlib.Core.Path.{_≡_};
-ghost use Rattle.figures.specs.Refusals.{figuresRefusal};
 ghost use Rattle.figures.specs.RoofRules.{shapeRefusal, roofRefusal};
 use figures::Roof;
 use figures::SPAN_NUMBERS;
 use figures::Shape;
-use figures::Site;
-use figures::first;
 use kind_rules::cylindrical_refusal;
 use kind_rules::monopitch_refusal;
 use kind_rules::multi_span_refusal;
 use kind_rules::pitched_refusal;
 use kind_rules::projection_refusal;
 use lower_rules::abutting_refusal;
-use site_rules::site_refusal;
 
 // The number of the first value rule that a shape with its slopes breaks, 0 where it breaks none.
 pub fn shape_refusal(shape: Shape, spans: &[u32; SPAN_NUMBERS]) -> u8
@@ -47,11 +43,4 @@ pub fn roof_refusal(roof: Roof) -> u8
 {
     let shape = roof.shape;
     shape_refusal(shape, &roof.spans)
-}
-
-// The number of the first rule that the site or the roof breaks, 0 where they break none.
-pub fn refusal(site: Site, roof: Roof) -> u8
-    ensures { λ r. ⌜ r ≡ figuresRefusal site roof ⌝ }
-{
-    first(site_refusal(site), roof_refusal(roof))
 }

@@ -1,6 +1,4 @@
 // Local forces, over the whole load S of a slope or the larger of two.
-ghost use Prim.Native.Nat.{_≤_};
-use super::roof::segment_at;
 use figures::Roof;
 use figures::Shape;
 use figures::Site;
@@ -13,6 +11,7 @@ use second_numbers::multiple;
 use second_numbers::sine;
 use second_numbers::times;
 use second_numbers::whole;
+use second_slopes::on_monopitch;
 
 // In the place of a force where there is none.
 pub const NO_FORCE: u32 = 4_294_967_295;
@@ -26,10 +25,19 @@ fn has_slope(shape: Shape, number: u8) -> bool {
     }
 }
 
-// The pitch, the width and the guard of a slope that the roof has.
-fn pitch_width_guard(shape: Shape, number: u8) -> [u32; 3] {
+// A slope and its guard.
+struct Guarded {
+    slope: Slope,
+    guard: u8,
+}
+
+// A slope that the roof has, with its guard.
+fn slope_of(shape: Shape, number: u8) -> Guarded {
     match shape {
-        Shape::Monopitch { slope, guard } => figures_of(slope, guard),
+        Shape::Monopitch { slope, guard } => Guarded {
+            slope: slope,
+            guard: guard,
+        },
         Shape::Pitched {
             left,
             right,
@@ -37,39 +45,38 @@ fn pitch_width_guard(shape: Shape, number: u8) -> [u32; 3] {
             right_guard,
         } => {
             if number == 2 {
-                return figures_of(right, right_guard);
+                return Guarded {
+                    slope: right,
+                    guard: right_guard,
+                };
             }
-            figures_of(left, left_guard)
+            Guarded {
+                slope: left,
+                guard: left_guard,
+            }
         }
-        _ => [0, 0, 0],
+        _ => Guarded {
+            slope: Slope { pitch: 0, width: 0 },
+            guard: 0,
+        },
     }
 }
 
-fn figures_of(slope: Slope, guard: u8) -> [u32; 3] {
-    [slope.pitch, slope.width, guard as u32]
-}
-
-// The segment of a slope in code 1.
-fn slope_index(number: u8) -> usize
-    ensures { λ r. ⌜ r ≤ 1 ⌝ }
-{
-    if number == 2 { 1 } else { 0 }
-}
-
-// S: the load of code 1 on the slope's segment. By A4 "S stays whole".
-fn slope_load(site: Site, roof: Roof, number: u8) -> u32 {
-    let segment = segment_at(roof, 1, site.sk, slope_index(number));
+// S: the load of code 1 on the slope, as on a roof of that slope alone. By A4 "S stays whole"; no national figure plays a part.
+fn slope_load(site: Site, shape: Shape, number: u8) -> u32 {
+    let guarded = slope_of(shape, number);
+    let slope = guarded.slope;
+    let segment = on_monopitch(slope, guarded.guard);
     load_on(ground_of(site, 1), segment, segment.start, WHOLE)
 }
 
 // By A5 an eave has the larger of the two slopes' S; a roof of one slope has its own.
-fn eave_load(site: Site, roof: Roof) -> u32 {
-    let shape = roof.shape;
-    let first = slope_load(site, roof, 1);
+fn eave_load(site: Site, shape: Shape) -> u32 {
+    let first = slope_load(site, shape, 1);
     if !has_slope(shape, 2) {
         return first;
     }
-    let second = slope_load(site, roof, 2);
+    let second = slope_load(site, shape, 2);
     if first < second { second } else { first }
 }
 
@@ -84,7 +91,7 @@ fn overhang_of(s: u32) -> u32 {
 pub fn overhang(site: Site, roof: Roof, number: u8) -> u32 {
     let shape = roof.shape;
     if has_slope(shape, number) & (800 < site.altitude) {
-        overhang_of(eave_load(site, roof))
+        overhang_of(eave_load(site, shape))
     } else {
         NO_FORCE
     }
@@ -93,10 +100,11 @@ pub fn overhang(site: Site, roof: Roof, number: u8) -> u32 {
 // The force at a slope's guard: S × width/1,000 × sine, with the sine in millionths, rounded up.
 pub fn guard_force(site: Site, roof: Roof, number: u8) -> u32 {
     let shape = roof.shape;
-    let slope = pitch_width_guard(shape, number);
-    if !has_slope(shape, number) | (slope[2] != 1) {
+    let guarded = slope_of(shape, number);
+    let slope = guarded.slope;
+    if !has_slope(shape, number) | (guarded.guard != 1) {
         return NO_FORCE;
     }
-    let s = times(whole(slope_load(site, roof, number)), slope[1]);
-    least(times(s, sine(slope[0])), whole(1_000_000_000))
+    let s = times(whole(slope_load(site, shape, number)), slope.width);
+    least(times(s, sine(slope.pitch)), whole(1_000_000_000))
 }

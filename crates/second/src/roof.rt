@@ -1,5 +1,6 @@
 // What a roof has: its end, and its segments from left to right, all kinds.
 ghost use Prim.Native.Nat.{_≤_, _<_};
+use figures::National;
 use figures::Roof;
 use figures::Shape;
 use second_arch::arch_count;
@@ -11,6 +12,7 @@ use second_drifts::beyond_wall;
 use second_drifts::projection_count;
 use second_drifts::wall_count;
 use second_numbers::Segment;
+use second_numbers::hundredths;
 use second_numbers::quarters;
 use second_numbers::sum;
 use second_slopes::on_left;
@@ -32,8 +34,8 @@ fn slope_count(count: u8) -> usize
     }
 }
 
-// How many segments the arrangement has.
-pub fn segment_count(shape: Shape, code: u8) -> usize
+// How many segments the arrangement has, by the national figures in use.
+pub fn segment_count(national: National, shape: Shape, code: u8) -> usize
     ensures { λ r. ⌜ r ≤ 32 ⌝ }
 {
     let base = persistent(code);
@@ -47,13 +49,13 @@ pub fn segment_count(shape: Shape, code: u8) -> usize
             slope_count(count)
         }
         Shape::Cylindrical { rise, span } => arch_count(rise, span, base),
-        Shape::Abutting { b2, h, .. } => wall_count(b2, h, base),
+        Shape::Abutting { b2, h, .. } => wall_count(national, b2, h, base),
         Shape::Projection { h, left, right } => projection_count(h, left, right),
     }
 }
 
-// The segment at an index, at a ground load of sk.
-pub fn segment_at(roof: Roof, code: u8, sk: u32, i: usize) -> Segment
+// The segment at an index, by the national figures in use, at a ground load of sk.
+pub fn segment_at(national: National, roof: Roof, code: u8, sk: u32, i: usize) -> Segment
     requires { ⌜ i < 32 ⌝ }
 {
     let base = persistent(code);
@@ -79,7 +81,9 @@ pub fn segment_at(roof: Roof, code: u8, sk: u32, i: usize) -> Segment
             }
             on_spans(&spans, slope_count(count), base, i)
         }
-        Shape::Cylindrical { rise, span } => on_cylinder(rise, span, base, i),
+        Shape::Cylindrical { rise, span } => {
+            on_cylinder(rise, span, hundredths(national.arch), base, i)
+        }
         Shape::Abutting {
             b1,
             b2,
@@ -89,9 +93,9 @@ pub fn segment_at(roof: Roof, code: u8, sk: u32, i: usize) -> Segment
             ..
         } => {
             if (base == 2) & (i == 0) {
-                at_wall(b1, b2, h, slope, guard, sk)
+                at_wall(national, b1, b2, h, slope, guard, sk)
             } else {
-                beyond_wall(b2, h, base)
+                beyond_wall(national, b2, h, base)
             }
         }
         Shape::Projection { h, left, right } => around_projection(h, left, right, sk, i),

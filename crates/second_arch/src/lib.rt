@@ -2,6 +2,7 @@
 ghost use Prim.Native.Nat.{_≤_, _<_};
 use second_numbers::EIGHT_TENTHS;
 use second_numbers::NOTHING;
+use second_numbers::Ratio;
 use second_numbers::Segment;
 use second_numbers::difference;
 use second_numbers::even;
@@ -72,11 +73,11 @@ fn even_arch(rise: u32, span: u32) -> Segment {
 }
 
 // Code 2: the legs of two triangles, each leg a quarter of ls, with the peaks 0.5μ3 and μ3.
-fn leg(rise: u32, span: u32, k: u32) -> Segment {
+fn leg(rise: u32, span: u32, upper: Ratio, k: u32) -> Segment {
     let quarter = loaded_width(rise, span);
     let start = sum(bare_edge(rise, span), multiple(k, quarter));
     let end = sum(start, quarter);
-    let peak = on_arch(rise, span);
+    let peak = on_arch(rise, span, upper);
     if k == 0 {
         uncut(start, end, NOTHING, halved(peak))
     } else if k == 1 {
@@ -88,27 +89,27 @@ fn leg(rise: u32, span: u32, k: u32) -> Segment {
     }
 }
 
-fn loaded_part(rise: u32, span: u32, code: u8, k: u32) -> Segment {
+fn loaded_part(rise: u32, span: u32, upper: Ratio, code: u8, k: u32) -> Segment {
     if code == 1 {
         even_arch(rise, span)
     } else {
-        leg(rise, span, k)
+        leg(rise, span, upper, k)
     }
 }
 
-// The segment at an index: outside ls the load is 0.
-pub fn on_cylinder(rise: u32, span: u32, code: u8, i: usize) -> Segment
+// The segment at an index, with the upper value of μ3: outside ls the load is 0.
+pub fn on_cylinder(rise: u32, span: u32, upper: Ratio, code: u8, i: usize) -> Segment
     requires { ⌜ i < 32 ⌝ }
 {
     let edge = bare_edge(rise, span);
     if edge == 0 {
-        return loaded_part(rise, span, code, i as u32);
+        return loaded_part(rise, span, upper, code, i as u32);
     }
     if i == 0 {
         return even(0, edge, NOTHING);
     }
     if i <= loaded_count(code) {
-        return loaded_part(rise, span, code, (i - 1) as u32);
+        return loaded_part(rise, span, upper, code, (i - 1) as u32);
     }
     let end = quarters(span);
     even(difference(end, edge), end, NOTHING)

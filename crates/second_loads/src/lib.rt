@@ -107,7 +107,7 @@ fn exact_den(segment: Segment) -> [u32; 8] {
 }
 
 // Whether a load is so many thousandths of a N/m² or more above the exact load of the segment at a station on it:
-// exact ≤ load − thousandths/1,000, with exact = num × factor × sk / (den × 1,000,000), multiplied out.
+// exact + thousandths/1,000 ≤ load, with exact = num × factor × sk / (den × 1,000,000), multiplied out.
 pub fn above_exact(
     ground: Ground,
     segment: Segment,
@@ -115,12 +115,12 @@ pub fn above_exact(
     load: u32,
     thousandths: u32,
 ) -> bool {
-    let thousand = multiple(load, 1_000);
-    if thousand < thousandths {
-        return false;
-    }
+    let den = exact_den(segment);
     not_above(
-        times(times(exact_num(segment, station), ground.factor), ground.sk),
-        times(times(exact_den(segment), 1_000), thousand - thousandths),
+        plus(
+            times(times(exact_num(segment, station), ground.factor), ground.sk),
+            times(times(den, 1_000), thousandths),
+        ),
+        times(times(den, MILLION), load),
     )
 }

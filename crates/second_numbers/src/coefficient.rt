@@ -16,6 +16,10 @@ pub const NOTHING: Ratio = Ratio { num: 0, den: 1 };
 // 0.8.
 pub const EIGHT_TENTHS: Ratio = Ratio { num: 8, den: 10 };
 
+pub fn hundredths(n: u32) -> Ratio {
+    Ratio { num: n, den: 100 }
+}
+
 pub fn halved(a: Ratio) -> Ratio {
     Ratio {
         num: a.num,
@@ -71,19 +75,19 @@ pub fn in_valley(left: u32, right: u32) -> Ratio {
     )
 }
 
-// μ3: 0.2 + 10 × rise/span, at most 2.0.
-pub fn on_arch(rise: u32, span: u32) -> Ratio {
+// μ3: 0.2 + 10 × rise/span, at most its upper value.
+pub fn on_arch(rise: u32, span: u32, upper: Ratio) -> Ratio {
     smaller(
         Ratio {
             num: sum(multiple(span, 2), multiple(rise, 100)),
             den: multiple(span, 10),
         },
-        Ratio { num: 2, den: 1 },
+        upper,
     )
 }
 
-// μw: (b1 + b2)/2h, first limited above by 2h/sk and by 4, then below by 0.8.
-pub fn by_wind(b1: u32, b2: u32, h: u32, sk: u32) -> Ratio {
+// μw: (b1 + b2)/2h, first limited above by 2h/sk and by the top of its range, then below by the bottom.
+pub fn by_wind(b1: u32, b2: u32, h: u32, sk: u32, bottom: Ratio, top: Ratio) -> Ratio {
     let spread = Ratio {
         num: sum(b1, b2),
         den: multiple(h, 2),
@@ -92,8 +96,7 @@ pub fn by_wind(b1: u32, b2: u32, h: u32, sk: u32) -> Ratio {
         num: multiple(h, 2),
         den: sk,
     };
-    let limited = smaller(smaller(spread, depth), Ratio { num: 4, den: 1 });
-    larger(limited, EIGHT_TENTHS)
+    larger(smaller(smaller(spread, depth), top), bottom)
 }
 
 // μs: 0 up to 15.0°; above that μ1 × slope width/ls.

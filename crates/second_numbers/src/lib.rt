@@ -13,6 +13,7 @@ pub use coefficient::at_projection;
 pub use coefficient::by_sliding;
 pub use coefficient::by_wind;
 pub use coefficient::halved;
+pub use coefficient::hundredths;
 pub use coefficient::in_valley;
 pub use coefficient::on_arch;
 pub use coefficient::on_slope;

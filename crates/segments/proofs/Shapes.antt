@@ -5,7 +5,7 @@ use mathlib.Core.List.{List}
 use Rattle.figures.specs.Bounds.{ShapeIn}
 use Rattle.figures.specs.declared.roof.Shape.{Shape}
 use Rattle.standard.specs.Arrangements.{countIn}
-use Rattle.standard.specs.declared.National.{National}
+use Rattle.figures.specs.declared.national.National.{National}
 
 module _ {sh known : Shape} (e : sh ≡ known) where
   pub known-in : (l : List ℕ) → ShapeIn sh l → ShapeIn known l

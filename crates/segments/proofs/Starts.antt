@@ -8,7 +8,7 @@ use Rattle.standard.specs.Arrangements.{count, stretch}
 use Rattle.standard.specs.Bounds.{FiguresIn}
 use Rattle.standard.specs.Stretch.{Stretch, startOf}
 use Rattle.standard.specs.Units.{largestPosition}
-use Rattle.standard.specs.declared.National.{National}
+use Rattle.figures.specs.declared.national.National.{National}
 use Rattle.standard.proofs.Demand.{start-on-roof, end-in-range}
 use Rattle.ramps.specs.Ramps.{rampOf}
 use Rattle.ramps.specs.declared.Ramp.{Ramp}

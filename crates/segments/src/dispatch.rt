@@ -5,7 +5,7 @@ ghost use Rattle.figures.specs.Bounds.{ShapeIn};
 ghost use Rattle.loads.specs.Sizes.{Ground};
 ghost use Rattle.ramps.specs.Ramps.{rampOf, RampIn};
 ghost use Rattle.standard.specs.Arrangements.{countIn, stretchIn, endIn};
-ghost use Rattle.standard.specs.Bounds.{NationalIn};
+ghost use Rattle.figures.specs.Bounds.{NationalIn};
 use crate::spans::spans_count;
 use crate::spans::spans_ramp;
 use drift_ramps::abutting_count;
@@ -14,13 +14,13 @@ use drift_ramps::cylindrical_count;
 use drift_ramps::cylindrical_ramp;
 use drift_ramps::projection_count;
 use drift_ramps::projection_ramp;
+use figures::National;
 use figures::SPAN_NUMBERS;
 use figures::Shape;
 use ramps::Ramp;
 use slope_ramps::pitched_ramp;
 use slope_ramps::slope_ramp;
 use slope_ramps::widths_between;
-use standard::National;
 
 // The number of segments of a persistent code.
 pub fn count_in(national: National, shape: Shape, spans: &[u32; SPAN_NUMBERS], code: u8) -> usize

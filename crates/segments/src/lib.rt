@@ -11,12 +11,12 @@ ghost use Rattle.standard.specs.Arrangements.{stretch};
 ghost use Rattle.standard.specs.Bounds.{FiguresIn};
 pub use dispatch::end;
 pub use dispatch::ramp_in;
+use figures::National;
 use figures::SPAN_NUMBERS;
 use figures::Shape;
 use figures::Site;
 pub use ramps::Ramp;
 pub use ramps::reading_in;
-use standard::National;
 
 // The number of segments of an arrangement.
 pub fn count(

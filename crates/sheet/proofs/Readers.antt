@@ -10,12 +10,14 @@ use Rattle.ceilings.specs.Ceilings.{fits, ceilingOf}
 use Rattle.ceilings.specs.declared.Caller.{Caller}
 use Rattle.ceilings.specs.declared.Caller.the-variants.{Terminal, Desk}
 use Rattle.ceilings.specs.declared.Ceiling.{Ceiling}
+use Rattle.figures.specs.Store.{storeRefusal}
 use Rattle.pairs.specs.Pairs.{Answer, refused, count, pairNumber, inTurn, pairsVerdict, andThen, verdictMeans}
 use Rattle.upper_rules.specs.UpperRules.{uppersVerdict}
 use Rattle.pairs.specs.declared.Verdict.{Verdict}
 use Rattle.pairs.specs.declared.Verdict.the-variants.{Accepted, Refused}
+use Rattle.sheet.proofs.Kept.{store-accepted}
 use Rattle.sheet.specs.Readers.{sheetInside, Read}
-use Rattle.sheet.specs.Sheet.{Place, itemNumber, sheetVerdict, placeBy, place, partAt, locatedMeans}
+use Rattle.sheet.specs.Sheet.{Place, itemNumber, rulesVerdict, storeVerdict, sheetVerdict, placeBy, place, partAt, locatedMeans}
 use Rattle.sheet.specs.declared.reader.Located.{Located}
 use Rattle.sheet.specs.declared.reader.Located.the-variants.{At, Nowhere}
 
@@ -31,18 +33,9 @@ then-tested : (b : Bool) (v next : Answer ℕ) → andThen (oneUnless b v) next 
 then-tested true v next = refl
 then-tested false v next = refl
 
-place-tested : (b : Bool) (v : Answer ℕ) (s : List ℕ) (i : ℕ) → placeBy (oneUnless b v) s i ≡ oneUnless b (placeBy v s i)
-unfolding placeBy
-place-tested true v s i = refl
-place-tested false v s i = refl
-
-part-tested : (b : Bool) (p : Answer Place) (s : List ℕ) → partAt (oneUnless b p) s ≡ cond b (partAt p s) []
-part-tested true p s = refl
-part-tested false p s = refl
-
 -- what is read under the lower ceiling is what is read under the higher where the sheet is inside the lower; otherwise it is
 -- 1, item 0, whatever its pairs and items are
-module _ (low high : Ceiling) (h : Below low high) (s : List ℕ) where
+module _ (store : List ℕ) (low high : Ceiling) (h : Below low high) (s : List ℕ) where
   lower-pairs : pairsVerdict low s ≡ oneUnless (sheetInside low s) (pairsVerdict high s)
   unfolding pairsVerdict
   lower-pairs =
@@ -50,35 +43,48 @@ module _ (low high : Ceiling) (h : Below low high) (s : List ℕ) where
       ap (λ (b : Bool). oneUnless b walk) (lower-fits low high h (length s) (count s))
       ∙ two-tests (sheetInside low s) (fits high (length s) (count s)) walk
 
-  pub lower-verdict : sheetVerdict low s ≡ oneUnless (sheetInside low s) (sheetVerdict high s)
-  unfolding sheetVerdict
-  lower-verdict =
-      let walk = andThen (inTurn (itemNumber s) (count s) 0 (count s)) (uppersVerdict s (count s)) in
+  lower-rules : rulesVerdict store low s ≡ oneUnless (sheetInside low s) (rulesVerdict store high s)
+  unfolding rulesVerdict
+  lower-rules =
+      let walk = andThen (inTurn (itemNumber store s) (count s) 0 (count s)) (uppersVerdict s (count s)) in
       ap (λ (v : Answer ℕ). andThen v walk) lower-pairs ∙ then-tested (sheetInside low s) (pairsVerdict high s) walk
 
-  module _ (i : ℕ) where
-    pub lower-place : place low s i ≡ oneUnless (sheetInside low s) (place high s i)
-    unfolding place
-    lower-place = ap (λ (v : Answer ℕ). placeBy v s i) lower-verdict ∙ place-tested (sheetInside low s) (sheetVerdict high s) s i
+  -- with an accepted store; a refused one is told first, whoever reads
+  pub lower-verdict : storeRefusal store ≡ 0 → sheetVerdict store low s ≡ oneUnless (sheetInside low s) (sheetVerdict store high s)
+  lower-verdict k =
+      sym (store-accepted store low s k) ∙ (lower-rules ∙ ap (oneUnless (sheetInside low s)) (store-accepted store high s k))
 
-    pub lower-part : partAt (place low s i) s ≡ cond (sheetInside low s) (partAt (place high s i) s) []
-    lower-part = ap (λ (p : Answer Place). partAt p s) lower-place ∙ part-tested (sheetInside low s) (place high s i) s
+  same-read : (v : Answer ℕ) → sheetVerdict store low s ≡ v → Read store s low v (λ i. placeBy v s i) (λ i. partAt (placeBy v s i) s)
+  unfolding place
+  same-read v e =
+      record {
+        verdict = e;
+        places = λ i. ap (λ (a : Answer ℕ). placeBy a s i) e;
+        items = λ i. ap (λ (a : Answer ℕ). partAt (placeBy a s i) s) e;
+      }
 
-  lower-read :
-      (b : Bool) → sheetInside low s ≡ b
-      → Read s low (oneUnless b (sheetVerdict high s)) (λ i. oneUnless b (place high s i)) (λ i. cond b (partAt (place high s i) s) [])
-  lower-read b e = record { verdict = rw e at lower-verdict; places = λ i. rw e at (lower-place i); items = λ i. rw e at (lower-part i) }
+  -- the verdict inside the lower ceiling, whatever the store is
+  pub inside-verdict : sheetInside low s ≡ true → sheetVerdict store low s ≡ sheetVerdict store high s
+  unfolding sheetVerdict
+  inside-verdict e = ap (andThen (storeVerdict store)) (rw e at lower-rules)
 
--- "A sheet inside the desk's ceiling gets the same answer from both"
+-- "A sheet inside the desk's ceiling gets the same answer from both", with any store
 pub same-inside :
-    (s : List ℕ) → sheetInside (ceilingOf Desk) s ≡ true
-    → Read s (ceilingOf Desk) (sheetVerdict (ceilingOf Terminal) s) (place (ceilingOf Terminal) s) (λ i. partAt (place (ceilingOf Terminal) s i) s)
-same-inside s e = lower-read _ _ (below-terminals Desk) s true e
+    (store s : List ℕ) → sheetInside (ceilingOf Desk) s ≡ true
+    → Read store s (ceilingOf Desk) (sheetVerdict store (ceilingOf Terminal) s) (place store (ceilingOf Terminal) s)
+    (λ i. partAt (place store (ceilingOf Terminal) s i) s)
+unfolding place
+same-inside store s e =
+    same-read store _ (ceilingOf Terminal) (below-terminals Desk) s (sheetVerdict store (ceilingOf Terminal) s)
+    (inside-verdict store _ _ (below-terminals Desk) s e)
 
--- "1 when the sheet passes the ceiling of the caller that reads it, in its old place": item 0, and no item is handed back
+-- "1 when the sheet passes the ceiling of the caller that reads it, in its old place", behind 18: item 0, and no item is handed back
 pub one-outside :
-    (caller : Caller) (s : List ℕ) → sheetInside (ceilingOf caller) s ≡ false → Read s (ceilingOf caller) (refused 1 0) (λ i. refused 1 0) (λ i. [])
-one-outside caller s e = lower-read _ _ (below-terminals caller) s false e
+    (store : List ℕ) (caller : Caller) (s : List ℕ) → storeRefusal store ≡ 0 → sheetInside (ceilingOf caller) s ≡ false
+    → Read store s (ceilingOf caller) (refused 1 0) (λ i. refused 1 0) (λ i. [])
+unfolding placeBy
+one-outside store caller s k e =
+    same-read store _ (ceilingOf Terminal) (below-terminals caller) s (refused 1 0) (rw e at (lower-verdict store _ _ (below-terminals caller) s k))
 
 -- an answer of `verdict`, and one of `locate`, by what it says
 one-verdict : (a b : Verdict) → verdictMeans a ≡ verdictMeans b → a ≡ b
@@ -98,11 +104,11 @@ one-place (Nowhere k i) (At m n) e = let z : _≡_ {A = ℕ} 0 1 = cc in absurd 
 one-place (Nowhere k i) (Nowhere l j) e = let z : k ≡ l = cc in let w : i ≡ j = cc in rw (z, w)
 
 -- the same of the calls' own answers: what the desk gets is what a terminal gets
-module _ (s : List ℕ) (e : sheetInside (ceilingOf Desk) s ≡ true) where
+module _ (store s : List ℕ) (e : sheetInside (ceilingOf Desk) s ≡ true) where
   pub same-verdicts :
-      (d t : Verdict) → verdictMeans d ≡ sheetVerdict (ceilingOf Desk) s → verdictMeans t ≡ sheetVerdict (ceilingOf Terminal) s → d ≡ t
-  same-verdicts d t f g = one-verdict d t (f ∙ (same-inside s e .verdict ∙ sym g))
+      (d t : Verdict) → verdictMeans d ≡ sheetVerdict store (ceilingOf Desk) s → verdictMeans t ≡ sheetVerdict store (ceilingOf Terminal) s → d ≡ t
+  same-verdicts d t f g = one-verdict d t (f ∙ (same-inside store s e .verdict ∙ sym g))
 
   pub same-places :
-      (i : ℕ) (d t : Located) → locatedMeans d ≡ place (ceilingOf Desk) s i → locatedMeans t ≡ place (ceilingOf Terminal) s i → d ≡ t
-  same-places i d t f g = one-place d t (f ∙ (same-inside s e .places i ∙ sym g))
+      (i : ℕ) (d t : Located) → locatedMeans d ≡ place store (ceilingOf Desk) s i → locatedMeans t ≡ place store (ceilingOf Terminal) s i → d ≡ t
+  same-places i d t f g = one-place d t (f ∙ (same-inside store s e .places i ∙ sym g))

@@ -13,8 +13,8 @@ use Rattle.sheet.specs.Sheet.{Place, sheetVerdict, place, partAt}
 abbrev pub sheetInside : Ceiling → List ℕ → Bool
 sheetInside ceiling s = inside ceiling (length s) (count s)
 
--- "the same answer": what the reader answers to a sheet under a ceiling, the verdict, where each item lies, and each item
-pub record Read (s : List ℕ) (ceiling : Ceiling) (v : Answer ℕ) (at : ℕ → Answer Place) (item : ℕ → List ℕ) : Type 0 where
-  pub verdict : sheetVerdict ceiling s ≡ v
-  pub places : (i : ℕ) → place ceiling s i ≡ at i
-  pub items : (i : ℕ) → partAt (place ceiling s i) s ≡ item i
+-- "the same answer": what the reader answers to a sheet with a store under a ceiling, the verdict, where each item lies, and each item
+pub record Read (store s : List ℕ) (ceiling : Ceiling) (v : Answer ℕ) (at : ℕ → Answer Place) (item : ℕ → List ℕ) : Type 0 where
+  pub verdict : sheetVerdict store ceiling s ≡ v
+  pub places : (i : ℕ) → place store ceiling s i ≡ at i
+  pub items : (i : ℕ) → partAt (place store ceiling s i) s ≡ item i

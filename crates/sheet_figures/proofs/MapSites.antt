@@ -2,18 +2,20 @@
 use Prim.Native.Nat.{ℕ, zero, suc, _+_, _-_, _*_, _/_, _%_, _≤_, _<_}
 use mathlib.Core.Bool.{Bool, true, false, cond, _&&_}
 use mathlib.Core.List.{List}
+use mathlib.Core.Logic.{⊎-elim}
 use mathlib.Core.Path.{_≡_, refl, sym, ap, fun-ext, _∙_}
 use borrow.Author.Tests.{ltb-true, lt-ltb}
 use lib.Dec.{ltb}
 use lib.ListN.{length}
 use native.Mathlib.Omega.{arith}
 use Rattle.figures.specs.declared.site.Ground.the-variants.{OnMap}
+use Rattle.figures.specs.declared.site.Site.{Site}
 use Rattle.figures.specs.declared.site.SiteData.{SiteData}
 use Rattle.map_sites.proofs.Kept.{site-accepted}
 use Rattle.map_sites.specs.Sites.{skOf, asGiven, siteDataRefusal}
 use Rattle.items.specs.Items.{byKind, content}
-use Rattle.site_items.specs.SiteItems.{siteDataAt, siteItem, mapSiteItem}
-use Rattle.item_forms.specs.Forms.{sized}
+use Rattle.site_items.specs.SiteItems.{dayAt, siteLength, siteSized, siteDataAt, siteItem, mapSiteItem}
+use Rattle.site_items.proofs.Lengths.{own-or-dated}
 use Rattle.item_forms.specs.declared.Item.{Item}
 use Rattle.item_forms.specs.declared.Item.the-variants.{SiteItem, RoofItem, LowerItem, Malformed}
 use Rattle.little_endian.specs.Numbers.{byteAt}
@@ -22,6 +24,8 @@ use Rattle.pairs.specs.Pairs.{Answer, accepted, refused, offset, size, inTurn, 
 use Rattle.pairs.proofs.Kept.{pairs-kept}
 use Rattle.figures.specs.RoofRules.{roofOf}
 use Rattle.figures.specs.Rules.{refusedIf}
+use Rattle.figures.specs.Store.{dayRefusal, figuresInUse}
+use Rattle.figures.proofs.Laws.{first-kept, none-broken}
 use Rattle.figures.specs.declared.roof.Shape.{Shape}
 use Rattle.circles.specs.Following.{comesBack}
 use Rattle.item_forms.specs.Forms.{isLower}
@@ -30,11 +34,11 @@ use Rattle.upper_rules.specs.UpperRules.{mayStandAbove, upperNumber, circleNumb
 use Rattle.upper_rules.proofs.Kept.{upper-below}
 use Rattle.stepped_roofs.specs.Stepped.{isUpper, upperShape}
 use Rattle.order.specs.Order.{order}
-use Rattle.sheet.proofs.Kept.{sheet-kept, sheet-items}
+use Rattle.sheet.proofs.Kept.{sheet-kept, rules-items}
 use Rattle.item_rules.specs.Figures.{siteBy, shapeBy, roofBy}
-use Rattle.item_rules.specs.Rules.{ruleNumber}
-use Rattle.sheet.specs.Sheet.{itemNumber, sheetVerdict, placeBy, place}
-use Rattle.sheet_figures.specs.Find.{sheetSite, sheetRoof, foundIn, foundBy, found}
+use Rattle.item_rules.specs.Rules.{jobRefusal, ruleNumber}
+use Rattle.sheet.specs.Sheet.{itemNumber, storeVerdict, sheetVerdict, placeBy, place}
+use Rattle.sheet_figures.specs.Find.{sheetSite, sheetNational, sheetRoof, foundIn, foundBy, found}
 use Rattle.sheet_figures.specs.MapSites.{givenItem, GivenLoad}
 
 -- a walk asks only for the numbers that it passes
@@ -51,17 +55,26 @@ module _ (p : List ℕ) where
   abbrev onMap : SiteData
   onMap = siteDataAt p 3 (OnMap (byteAt p 1) (byteAt p 2))
 
-  map-item : length p ≡ 12 → byteAt p 0 ≡ 8 → content p .item ≡ SiteItem onMap
-  unfolding content byKind mapSiteItem sized
-  map-item l k = rw (l, k)
+  map-item : siteLength 12 (length p) ≡ true → byteAt p 0 ≡ 8 → content p .item ≡ SiteItem onMap
+  unfolding content byKind mapSiteItem siteSized
+  map-item l k =
+      ⊎-elim
+      (λ (e : length p ≡ 12). rw (e, k))
+      (λ (e : length p ≡ 14). rw (e, k))
+      (own-or-dated 12 (length p) l)
 
-  given-item : (q : List ℕ) (sk : ℕ) → q ≡ givenItem sk p → sk ≡ skOf (onMap .ground) (onMap .altitude) → content q .item ≡ SiteItem (asGiven onMap)
-  unfolding content byKind siteItem sized givenItem
-  given-item q sk e h =
+  given-item :
+      (q : List ℕ) (sk : ℕ) → siteLength 12 (length p) ≡ true → q ≡ givenItem sk p → sk ≡ skOf (onMap .ground) (onMap .altitude)
+      → content q .item ≡ SiteItem (asGiven onMap)
+  unfolding content byKind siteItem siteSized givenItem dayAt
+  given-item q sk l e h =
       let whole : sk % 256 + 256 * (sk / 256) + 65536 * 0 + 16777216 * 0 ≡ skOf (onMap .ground) (onMap .altitude) = omega arith in
-      rw (e, whole)
+      ⊎-elim
+      (λ (b : length p ≡ 12). rw (e, whole, b))
+      (λ (b : length p ≡ 14). rw (e, whole, b))
+      (own-or-dated 12 (length p) l)
 
-module _ (s t : List ℕ) (n : ℕ) (g : GivenLoad s t n) where
+module _ (store s t : List ℕ) (n : ℕ) (g : GivenLoad store s t n) where
   abbrev d : SiteData
   d = onMap (part s 0)
 
@@ -73,16 +86,17 @@ module _ (s t : List ℕ) (n : ℕ) (g : GivenLoad s t n) where
   its-load = ap (λ (x : Item). siteBy x .sk) site
 
   given-site : content (part t 0) .item ≡ SiteItem (asGiven d)
-  given-site = given-item (part s 0) (part t 0) (sheetSite s .sk) (g .given) its-load
+  given-site = given-item (part s 0) (part t 0) (sheetSite s .sk) (g .bytes) (g .given) its-load
 
-  kept : siteDataRefusal d ≡ 0
-  unfolding itemNumber
-  kept = sym (ap (λ (x : Item). ruleNumber 0 x (content (part s 0) .spans)) site) ∙ g .sound
+  kept : (siteDataRefusal d ≡ 0) × (dayRefusal store (d .day) ≡ 0)
+  unfolding itemNumber jobRefusal
+  kept = none-broken _ _ (sym (ap (λ (x : Item). ruleNumber store 0 x (content (part s 0) .spans)) site) ∙ g .sound)
 
-  same-number : (i : ℕ) → 0 ≤ i → i < 0 + n → itemNumber s i ≡ itemNumber t i
-  unfolding itemNumber siteDataRefusal
+  same-number : (i : ℕ) → 0 ≤ i → i < 0 + n → itemNumber store s i ≡ itemNumber store t i
+  unfolding itemNumber jobRefusal siteDataRefusal
   same-number zero a b =
-      g .sound ∙ sym (ap (λ (x : Item). ruleNumber 0 x (content (part t 0) .spans)) given-site ∙ site-accepted d kept)
+      let given : jobRefusal store (asGiven d) ≡ 0 = sym (first-kept _ _ (site-accepted d (kept .0))) ∙ kept .1 in
+      g .sound ∙ sym (ap (λ (x : Item). ruleNumber store 0 x (content (part t 0) .spans)) given-site ∙ given)
   same-number (suc i) a b = rw (g .others (suc i) (omega arith) (omega arith))
 
   -- what tells no site from another tells no item of s from that of t
@@ -117,11 +131,13 @@ module _ (s t : List ℕ) (n : ℕ) (g : GivenLoad s t n) where
       ap (λ (up : ℕ → ℕ). inTurn (λ i. refusedIf (comesBack up n i) 17) n 1 (n - 1)) same-upper in
       rw (same-walk (upperNumber s n) (upperNumber t n) n 0 n same-sixteen, circles)
 
-  pub same-verdict : sheetVerdict terminals s ≡ sheetVerdict terminals t
+  pub same-verdict : sheetVerdict store terminals s ≡ sheetVerdict store terminals t
+  unfolding sheetVerdict
   same-verdict =
-      let items : andThen (inTurn (itemNumber s) n 0 n) (uppersVerdict s n) ≡ andThen (inTurn (itemNumber t) n 0 n) (uppersVerdict t n) =
-      rw (same-walk (itemNumber s) (itemNumber t) n 0 n same-number, same-uppers) in
-      sym (sheet-items terminals s n (g .pairs)) ∙ (items ∙ sheet-items terminals t n (g .given-pairs))
+      let items : andThen (inTurn (itemNumber store s) n 0 n) (uppersVerdict s n) ≡ andThen (inTurn (itemNumber store t) n 0 n) (uppersVerdict t n) =
+      rw (same-walk (itemNumber store s) (itemNumber store t) n 0 n same-number, same-uppers) in
+      ap (andThen (storeVerdict store))
+      (sym (rules-items store terminals s n (g .pairs)) ∙ (items ∙ rules-items store terminals t n (g .given-pairs)))
 
   pub same-order : roofOrder s n ≡ roofOrder t n
   same-order = ap (λ (up : ℕ → ℕ). order up n) same-upper
@@ -130,16 +146,20 @@ module _ (s t : List ℕ) (n : ℕ) (g : GivenLoad s t n) where
   unfolding sheetSite
   same-site = ap siteBy site ∙ sym (ap siteBy given-site)
 
-  -- an accepted sheet has the count of its pairs
-  pub counted : (m : ℕ) → sheetVerdict terminals s ≡ accepted m → m ≡ n
-  counted m e = sheet-kept terminals s m e .pairs .counted ∙ sym (pairs-kept terminals s n (g .pairs) .counted)
+  pub same-national : sheetNational store s ≡ sheetNational store t
+  unfolding sheetNational
+  same-national = ap (λ (x : Site). figuresInUse store (x .day)) same-site
 
-  module _ (m : ℕ) (v : sheetVerdict terminals s ≡ accepted m) where
+  -- an accepted sheet has the count of its pairs
+  pub counted : (m : ℕ) → sheetVerdict store terminals s ≡ accepted m → m ≡ n
+  counted m e = sheet-kept store terminals s m e .pairs .counted ∙ sym (pairs-kept terminals s n (g .pairs) .counted)
+
+  module _ (m : ℕ) (v : sheetVerdict store terminals s ≡ accepted m) where
     above-below : (i : ℕ) → i < n → upperIndex (itemAt s i) < n
     unfolding upper
     above-below i h =
         let e = counted m v in
-        let b : upper s n i < n = upper-below s n (rw e at (sheet-kept terminals s m v .uppers)) i h in
+        let b : upper s n i < n = upper-below s n (rw e at (sheet-kept store terminals s m v .uppers)) i h in
         rw (lt-ltb i n h) at b
 
     pub same-roof : (i : ℕ) → 0 < i → i < n → sheetRoof s i ≡ sheetRoof t i
@@ -155,24 +175,24 @@ module _ (s t : List ℕ) (n : ℕ) (g : GivenLoad s t n) where
         by-upper (LowerItem lower) y z e = rw e
         by-upper (Malformed number) y z e = refl
 
-    same-in : (i : ℕ) → i < n → foundIn s i ≡ foundIn t i
-    same-in zero h = rw same-site
-    same-in (suc i) h = rw (same-site, same-roof (suc i) (omega arith) h)
+    same-in : (i : ℕ) → i < n → foundIn store s i ≡ foundIn store t i
+    same-in zero h = rw (same-national, same-site)
+    same-in (suc i) h = rw (same-national, same-site, same-roof (suc i) (omega arith) h)
 
   module _ (i : ℕ) where
     by-index :
-        (m : ℕ) → sheetVerdict terminals s ≡ accepted m → (b : Bool) → ltb i n ≡ b
-        → foundBy (cond b (accepted (record { start = offset s i; bytes = size s i })) (refused 12 i)) s i
-        ≡ foundBy (cond b (accepted (record { start = offset t i; bytes = size t i })) (refused 12 i)) t i
+        (m : ℕ) → sheetVerdict store terminals s ≡ accepted m → (b : Bool) → ltb i n ≡ b
+        → foundBy (cond b (accepted (record { start = offset s i; bytes = size s i })) (refused 12 i)) store s i
+        ≡ foundBy (cond b (accepted (record { start = offset t i; bytes = size t i })) (refused 12 i)) store t i
     by-index m v true e = same-in m v i (ltb-true i n e)
     by-index m v false e = refl
 
-    by-verdict : (v : Answer ℕ) → sheetVerdict terminals s ≡ v → foundBy (placeBy v s i) s i ≡ foundBy (placeBy v t i) t i
+    by-verdict : (v : Answer ℕ) → sheetVerdict store terminals s ≡ v → foundBy (placeBy v s i) store s i ≡ foundBy (placeBy v t i) store t i
     unfolding placeBy
     by-verdict (refused number item) e = refl
     by-verdict (accepted m) e = rw (counted m e) (by-index m e (ltb i n) refl)
 
     -- every call on an item has the same figures, or the same refusal
-    pub same-found : found s i ≡ found t i
+    pub same-found : found store s i ≡ found store t i
     unfolding found place
-    same-found = by-verdict (sheetVerdict terminals s) refl ∙ ap (λ (v : Answer ℕ). foundBy (placeBy v t i) t i) same-verdict
+    same-found = by-verdict (sheetVerdict store terminals s) refl ∙ ap (λ (v : Answer ℕ). foundBy (placeBy v t i) store t i) same-verdict

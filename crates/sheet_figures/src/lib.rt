@@ -1,23 +1,26 @@
-// The one place where a sheet becomes figures: the sheet's site and an item's roof.
+// The one place where a sheet becomes figures: the sheet's site, the national figures that its job uses, and an item's roof.
 ghost use mathlib.Core.Bool.{false};
 ghost use mathlib.Core.Path.{_≡_};
 ghost use Prim.Native.Nat.{_<_};
 ghost use Rattle.figures.specs.RoofRules.{roofRefusal};
 ghost use Rattle.figures.specs.SiteRules.{siteRefusal};
+ghost use Rattle.figures.specs.Store.{storeRefusal};
 ghost use Rattle.item_rules.specs.Figures.{noSite, noShape, noRoof, siteBy, shapeBy};
-ghost use Rattle.item_rules.specs.Rules.{ruleOf};
 ghost use Rattle.figures.specs.Slopes.{AcceptedShape};
 ghost use Rattle.stepped_roofs.specs.Stepped.{upperShape, steppedShape};
 ghost use Rattle.pairs.specs.Pairs.{PartIn};
 ghost use Rattle.item_forms.specs.Forms.{isLower};
 ghost use Rattle.upper_items.specs.Uppers.{itemAt, upperIndex};
 ghost use Rattle.sheet.specs.Sheet.{ItemIn, ItemOf};
-ghost use Rattle.sheet_figures.specs.Find.{sheetSite, sheetRoof, OwnShape, foundIn, found};
+ghost use Rattle.sheet_figures.specs.Find.{sheetSite, sheetRoof, OwnShape, SoundFirst, foundIn, found, FoundAccepted};
+use figures::JobDay;
 use figures::LowerRoof;
+use figures::National;
 use figures::Roof;
 use figures::SPAN_NUMBERS;
 use figures::Shape;
 use figures::Site;
+use figures::recommended;
 use items::Decoded;
 use items::Item;
 use items::decode;
@@ -25,6 +28,7 @@ use items::is_lower;
 use map_sites::site_from;
 use pairs::part_at;
 use roof_items::lower_at;
+use sets_in_use::figures_for;
 use sheet::Caller;
 use sheet::Located;
 use sheet::locate;
@@ -39,9 +43,11 @@ pub enum Finding {
     Refused(u8, usize),
 }
 
-// A finding with the figures: the sheet's site and the item's roof, and zeros where there is none.
+// A finding with the figures: the national ones that the job uses, the sheet's site and the item's roof; where there is none the
+// recommended ones and zeros.
 pub struct Found {
     pub finding: Finding,
+    pub national: National,
     pub site: Site,
     pub roof: Roof,
 }
@@ -56,6 +62,7 @@ fn no_site() -> Site
         cesl: 0,
         situation: 0,
         altitude: 0,
+        day: JobDay::Undated,
     }
 }
 
@@ -79,7 +86,7 @@ fn no_roof() -> Roof
 
 // The site that a first item says that is sound: a map site has its ground load from there.
 fn site_of(decoded: Decoded) -> Site
-    requires { ⌜ ruleOf 0 decoded ≡ 0 ⌝ }
+    requires { ⌜ SoundFirst decoded ⌝ }
     ensures { λ r. ⌜ r ≡ siteBy (decoded .item) ⌝ }
 {
     let item = decoded.item;
@@ -144,36 +151,43 @@ pub fn roof_in(s: &[u8], i: usize) -> Roof
     }
 }
 
-// What an accepted sheet has at an index of an item.
-fn found_in(s: &[u8], index: usize) -> Found
-    requires { ⌜ ItemOf (now s) index ⌝ }
-    ensures { λ r. ⌜ r ≡ foundIn (now (s .entry)) index ⌝ }
+// What an accepted sheet has at an index of an item. The set in use is found here, and once.
+fn found_in(store: &[u32], s: &[u8], index: usize) -> Found
+    requires { ⌜ (storeRefusal (now store) ≡ 0) × ItemOf (now s) index ⌝ }
+    ensures { λ r. ⌜ r ≡ foundIn (now (store .entry)) (now (s .entry)) index ⌝ }
 {
     let site = site_in(s);
+    let day = site.day;
+    let national = figures_for(store, day);
     if index == 0 {
         return Found {
             finding: Finding::NoRoof,
+            national: national,
             site: site,
             roof: no_roof(),
         };
     }
     Found {
         finding: Finding::RoofFound,
+        national: national,
         site: site,
         roof: roof_in(s, index),
     }
 }
 
-// What any bytes as a sheet have at an index: the sheet's site and the item's roof, or the first broken rule.
-pub fn find(s: &[u8], index: usize) -> Found
-    ensures { λ r. ⌜ r ≡ found (now (s .entry)) index ⌝ }
+// What any bytes as a sheet have at an index, read with any numbers as a store: the national figures in use, the sheet's site and the
+// item's roof, or the first broken rule.
+pub fn find(store: &[u32], s: &[u8], index: usize) -> Found
+    ensures found { λ r. ⌜ r ≡ found (now (store .entry)) (now (s .entry)) index ⌝ }
+    ensures accepted { λ r. ⌜ FoundAccepted r ⌝ }
 {
-    match locate(s, Caller::Terminal, index) {
+    match locate(store, s, Caller::Terminal, index) {
         Located::Nowhere(number, item) => Found {
             finding: Finding::Refused(number, item),
+            national: recommended(),
             site: no_site(),
             roof: no_roof(),
         },
-        Located::At(_, _) => found_in(s, index),
+        Located::At(_, _) => found_in(store, s, index),
     }
 }

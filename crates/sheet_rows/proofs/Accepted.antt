@@ -7,29 +7,31 @@ use native.Mathlib.Numerals.{add-one}
 use native.Mathlib.Omega.{arith}
 use Rattle.roof_rows.specs.Rows.{roofRows}
 use Rattle.roof_rows.proofs.Lengths.{roof-short}
-use Rattle.sheet_figures.specs.Find.{sheetSite, sheetRoof}
+use Rattle.sheet_figures.specs.Find.{sheetSite, sheetNational, sheetRoof}
 use Rattle.ceilings.specs.Ceilings.{terminals}
 use Rattle.pairs.specs.Pairs.{accepted, PartsIn}
 use Rattle.pairs.proofs.Kept.{parts-in}
 use Rattle.sheet.specs.Sheet.{ItemIn, ItemOf, sheetVerdict}
 use Rattle.sheet.proofs.Kept.{sheet-kept, item-in, sheet-ordered}
-use Rattle.sheet_figures.proofs.Sound.{site-sound, roof-sound}
+use Rattle.sheet_figures.proofs.Sound.{national-in, site-sound, roof-sound}
 use Rattle.sheet_rows.specs.SheetRows.{itemRows, roofsRows}
 use Rattle.standard.specs.Bounds.{FiguresIn}
-use Rattle.standard.specs.Coefficients.{recommendedFigures}
-use Rattle.standard.specs.declared.National.{National}
-use Rattle.standard.proofs.Demand.{recommended-in}
+use Rattle.figures.specs.Store.{storeRefusal}
+use Rattle.figures.specs.declared.national.National.{National}
 use Rattle.upper_items.specs.Uppers.{roofOrder}
 
-module _ (sheet : List ℕ) (n : ℕ) (h : sheetVerdict terminals sheet ≡ accepted n) where
+module _ (store sheet : List ℕ) (n : ℕ) (h : sheetVerdict store terminals sheet ≡ accepted n) where
+  pub with-store : storeRefusal store ≡ 0
+  with-store = sheet-kept store terminals sheet n h .accepted-store
+
   pub few-items : n ≤ 32
-  few-items = sheet-kept terminals sheet n h .pairs .fit .items
+  few-items = sheet-kept store terminals sheet n h .pairs .fit .items
 
   pub parts : PartsIn sheet n
-  parts = parts-in (sheet-kept terminals sheet n h .pairs)
+  parts = parts-in (sheet-kept store terminals sheet n h .pairs)
 
   pub first-item : ItemIn sheet 0
-  first-item = item-in terminals sheet n h 0 (omega (arith, sheet-kept terminals sheet n h .pairs .fit .some))
+  first-item = item-in store terminals sheet n h 0 (omega (arith, sheet-kept store terminals sheet n h .pairs .fit .some))
 
   -- the roof at a place of the order
   module _ (k : ℕ) (lt : k < n - 1) where
@@ -37,19 +39,19 @@ module _ (sheet : List ℕ) (n : ℕ) (h : sheetVerdict terminals sheet ≡ acce
     roof = getD (roofOrder sheet n) k 0
 
     pub some-roof : 0 < roof
-    some-roof = sheet-ordered terminals sheet n h .roof k lt .0
+    some-roof = sheet-ordered store terminals sheet n h .roof k lt .0
 
     pub roof-below : roof < n
-    roof-below = sheet-ordered terminals sheet n h .roof k lt .1
+    roof-below = sheet-ordered store terminals sheet n h .roof k lt .1
 
     pub roof-of : ItemOf sheet roof
-    roof-of = record { ceiling = terminals; items = n; verdict = h; below = roof-below }
+    roof-of = record { store = store; ceiling = terminals; items = n; verdict = h; below = roof-below }
 
-    pub figures-at : FiguresIn recommendedFigures (sheetSite sheet) (sheetRoof sheet roof)
+    pub figures-at : FiguresIn (sheetNational store sheet) (sheetSite sheet) (sheetRoof sheet roof)
     figures-at =
         record {
-          national = recommended-in;
-          site = site-sound sheet (first-item .sound);
+          national = national-in store sheet with-store;
+          site = site-sound sheet (first-item .store) (first-item .sound);
           roof = roof-sound sheet roof some-roof roof-of;
         }
 
@@ -59,22 +61,22 @@ module _ (sheet : List ℕ) (n : ℕ) (h : sheetVerdict terminals sheet ≡ acce
     roof-in-table table e =
         ap (λ (l : List ℕ). getD l k 0) e
         ∙ List·getD-append (roofOrder sheet n) (drop (length (roofOrder sheet n)) (replicate 32 0)) 0 k
-        (omega (arith, sheet-ordered terminals sheet n h .places))
+        (omega (arith, sheet-ordered store terminals sheet n h .places))
 
   -- a roof has at most 8,624 bytes of rows
-  pub roofs-short : (k : ℕ) → k ≤ n - 1 → length (roofsRows recommendedFigures sheet (roofOrder sheet n) k) ≤ 8624 * k
+  pub roofs-short : (k : ℕ) → k ≤ n - 1 → length (roofsRows (sheetNational store sheet) sheet (roofOrder sheet n) k) ≤ 8624 * k
   unfolding roofsRows itemRows
   roofs-short zero l = omega arith
   roofs-short (suc k) l =
       let i = getD (roofOrder sheet n) k 0 in
       omega (
         arith,
-        length-append (roofsRows recommendedFigures sheet (roofOrder sheet n) k) (roofRows recommendedFigures (sheetSite sheet) (sheetRoof sheet i) i),
+        length-append (roofsRows (sheetNational store sheet) sheet (roofOrder sheet n) k) (roofRows (sheetNational store sheet) (sheetSite sheet) (sheetRoof sheet i) i),
         roofs-short k (omega arith),
-        roof-short recommendedFigures (sheetSite sheet) (sheetRoof sheet i) i (figures-at k (omega arith)),
+        roof-short (sheetNational store sheet) (sheetSite sheet) (sheetRoof sheet i) i (figures-at k (omega arith)),
       )
 
-  pub all-short : length (roofsRows recommendedFigures sheet (roofOrder sheet n) (n - 1)) ≤ 267344
+  pub all-short : length (roofsRows (sheetNational store sheet) sheet (roofOrder sheet n) (n - 1)) ≤ 267344
   all-short = omega (arith, roofs-short (n - 1) (omega arith), few-items)
 
 -- one roof more

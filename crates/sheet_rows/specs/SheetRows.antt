@@ -4,7 +4,7 @@ use mathlib.Core.List.{List, [], _++_}
 use lib.ListN.{getD}
 use Rattle.roof_rows.specs.Rows.{roofRows}
 use Rattle.sheet_figures.specs.Find.{sheetSite, sheetRoof}
-use Rattle.standard.specs.declared.National.{National}
+use Rattle.figures.specs.declared.national.National.{National}
 
 -- the rows of the roof that item i is
 unfoldable pub itemRows : National → List ℕ → ℕ → List ℕ

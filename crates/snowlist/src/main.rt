@@ -39,9 +39,11 @@ fn main() {
             return;
         }
     }
+    // The program has an empty store.
+    let store = [0u32; 193];
     let mut numbers = [0u32; 128];
     let mut text = text_room();
-    let written = listing::list(&sheet[..n], &mut numbers, &mut text);
+    let written = listing::list(&store, &sheet[..n], &mut numbers, &mut text);
     if !io::write_all(libc::STDOUT_FILENO, &text[..written]) {
         os::fail(b"write");
     }

@@ -13,7 +13,7 @@ use Rattle.rounding.proofs.Limited.{min-mono, max-mono, held-low}
 use Rattle.standard.specs.Coefficients.{driftLength, muWind, muSlide}
 use Rattle.standard.specs.Stretch.{even, startOf, eightTenths}
 use Rattle.standard.specs.Abutting.{abuttingLength, wallLoad, abuttingDrift, abutting, abuttingCount}
-use Rattle.standard.specs.declared.National.{National}
+use Rattle.figures.specs.declared.national.National.{National}
 use Rattle.standard.specs.Numerators.{windNum}
 use Rattle.standard.proofs.Numerators.{wind-positive, wind-is, slide-positive}
 use Rattle.standard.proofs.Runs.{Readable, Level, Upward, Rises, WellFormed, even-readable, even-level, even-rises, formed}

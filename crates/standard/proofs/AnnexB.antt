@@ -5,6 +5,7 @@ use mathlib.Core.Bool.{cond, true}
 use mathlib.Core.List.{List, [], _∷_, _++_}
 use lib.ListN.{replicate}
 use Rattle.figures.specs.RoofRules.{roofOf, slopeOf, valleyOf}
+use Rattle.figures.specs.declared.site.JobDay.the-variants.{Undated}
 use Rattle.figures.specs.declared.site.Site.{Site}
 use Rattle.figures.specs.declared.roof.Roof.{Roof}
 use Rattle.figures.specs.declared.roof.Shape.the-variants.{MultiSpan}
@@ -14,7 +15,7 @@ use Rattle.rounding.specs.Ramp.{reading}
 use Rattle.rounding.specs.Up.{ceilDiv, roundedUp}
 use Rattle.standard.specs.Arrangements.{countIn, stretchIn, count, stretch, arrangementInParts, arrangement, loadInParts, loadAt, factorOf}
 use Rattle.standard.specs.Codes.{existsIn}
-use Rattle.standard.specs.Coefficients.{recommendedFigures}
+use Rattle.figures.specs.National.{recommendedFigures}
 use Rattle.standard.specs.Drift.{peak, driftRow}
 use Rattle.standard.specs.MultiSpan.{widths}
 use Rattle.standard.specs.Stretch.{readIn, startOf, segment, segments, holds, readingAt, greatest}
@@ -72,7 +73,7 @@ which-codes = refl
 
 -- a site in situation 3 with its own Ce, Ct and Cesl, which play no part
 abbrev site : ℕ → Site
-site sk = record { sk = sk; ce = 80; ct = 50; cesl = 300; situation = 3; altitude = 0 }
+site sk = record { sk = sk; ce = 80; ct = 50; cesl = 300; situation = 3; altitude = 0; day = Undated }
 
 -- three spans of slopes 4,000 and 5,000, 6,001 and 7,000, 3,000 and 8,002, with h and b3 of their two valleys
 abbrev roof : ℕ → ℕ → ℕ → ℕ → Roof

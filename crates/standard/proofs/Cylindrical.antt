@@ -19,7 +19,7 @@ use Rattle.standard.specs.Coefficients.{mu3}
 use Rattle.standard.specs.Stretch.{even, load, startOf, eightTenths, noLoad}
 use Rattle.standard.specs.Cylindrical.{firstFrom, wideEnough, loadedWidth, archEven, archDrift, peakLoad, halfLoad, cylindrical, cylindricalCount}
 use Rattle.standard.specs.Units.{parts}
-use Rattle.standard.specs.declared.National.{National}
+use Rattle.figures.specs.declared.national.National.{National}
 use Rattle.standard.proofs.Numerators.{mu3-positive}
 use Rattle.standard.proofs.Runs.{Readable, Level, Upward, Rises, WellFormed, returned, formed, outside}
 use Rattle.standard.proofs.Runs.{even-readable, even-level, even-rises, ramp-readable, ramp-rises, ramp-beside}

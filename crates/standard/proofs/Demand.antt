@@ -17,15 +17,14 @@ use Rattle.figures.specs.declared.roof.Shape.the-variants.{Monopitch, Pitched, 
 use Rattle.figures.specs.declared.roof.Roof.{Roof}
 use Rattle.figures.proofs.Accepted.{site-in, shape-in}
 use Rattle.figures.proofs.Laws.{within-in}
-use Rattle.standard.specs.Bounds.{NationalIn}
+use Rattle.figures.specs.Bounds.{NationalIn}
 use Rattle.standard.specs.Codes.{accidental, baseCode, namesValley, severalSlopes}
-use Rattle.standard.specs.Coefficients.{recommendedFigures}
 use Rattle.standard.specs.Stretch.{startOf, readIn, greatest}
 use Rattle.standard.specs.Arrangements.{factorOf, countIn, stretchIn, rampedIn, endIn, exists, count, stretch, endOf}
 use Rattle.standard.specs.Arrangements.{loadInParts, loadAt, exactAt, NearExact}
 use Rattle.standard.specs.Units.{parts, largestPosition}
 use Rattle.standard.specs.ValleyDrift.{spansCount}
-use Rattle.standard.specs.declared.National.{National}
+use Rattle.figures.specs.declared.national.National.{National}
 use Rattle.standard.proofs.Runs.{Held, ReadHeld, ExactHeld, Rises, Level, WellFormed, returned}
 use Rattle.standard.proofs.Runs.{near-greatest, covered, one-reads, one-exact, starts-within, rise-greatest, start-load}
 use Rattle.standard.proofs.Codes.{named-base}
@@ -36,16 +35,6 @@ use Rattle.standard.proofs.Cylindrical.{cylindrical-formed, cylindrical
 use Rattle.standard.proofs.Abutting.{abutting-formed, abutting-rises, abutting-level, abutting-apart}
 use Rattle.standard.proofs.Projection.{projection-formed, projection-rises, projection-level, projection-apart}
 use Rattle.standard.proofs.ValleyDrift.{spans-formed, spans-rises, spans-level, drift-alike, drift-apart}
-
-pub recommended-in : NationalIn recommendedFigures
-recommended-in =
-    record {
-      arch = record { low = omega arith; high = omega arith };
-      low = record { low = omega arith; high = omega arith };
-      high = record { low = omega arith; high = omega arith };
-      short = record { low = omega arith; high = omega arith };
-      long = record { low = omega arith; high = omega arith };
-    }
 
 -- kind by kind
 module _ (national : National) (spans : List ℕ) (factor code : ℕ) where
@@ -165,7 +154,7 @@ module _ (national : National) (site : Site) (roof : Roof) (code : ℕ)
   unfolding loadInParts exactAt
   distance p = near-greatest (stretch national site roof code) p 10 (count national roof code) (omega arith) (well-formed .each)
 
--- two sites that differ in sk alone
+-- two sites that differ in sk alone; their days are as they are, since "the two sites of the rising rule use equal sets" (document 02, A8)
 pub record Alike (s t : Site) : Type 0 where
   pub ce : s .ce ≡ t .ce
   pub ct : s .ct ≡ t .ct

@@ -2,6 +2,7 @@
 use Prim.Native.Nat.{ℕ, _+_, _-_, _*_, _≤_, _<_, min}
 use mathlib.Core.Path.{_≡_, refl, sym, subst, _∙_}
 use mathlib.Core.Bool.{Bool, true, false, cond, _&&_}
+use mathlib.Core.List.{List}
 use borrow.Author.Tests.{eqb-true}
 use lib.Dec.{ltb, eqb}
 use native.Mathlib.Decide.{decLe}
@@ -12,6 +13,7 @@ use Rattle.figures.specs.Bounds.{SiteIn}
 use Rattle.figures.specs.Refusals.{figuresRefusal}
 use Rattle.figures.specs.RoofRules.{roofRefusal}
 use Rattle.figures.specs.SiteRules.{siteRefusal}
+use Rattle.figures.specs.declared.site.JobDay.the-variants.{Undated}
 use Rattle.figures.specs.declared.site.Site.{Site}
 use Rattle.figures.specs.declared.roof.Slope.{Slope}
 use Rattle.figures.specs.declared.roof.Shape.{Shape}
@@ -19,7 +21,7 @@ use Rattle.figures.specs.declared.roof.Shape.the-variants.{Pitched}
 use Rattle.figures.specs.declared.roof.Roof.{Roof}
 use Rattle.figures.proofs.Accepted.{site-in}
 use Rattle.figures.proofs.Sides.{side-in}
-use Rattle.figures.proofs.Laws.{none-broken}
+use Rattle.figures.proofs.Stores.{accepted}
 use Rattle.rounding.specs.Fraction.{Fraction, over, sum, AtMost, Under, UnderParts, Below, Same, Near}
 use Rattle.rounding.specs.Load.{alone, exact, breakLoad}
 use Rattle.rounding.specs.Limit.{smaller, larger}
@@ -62,14 +64,14 @@ load-most n d f s p q r =
 
 -- S is whole: a load of 800.8 N/m² is 801.
 pub whole-801 :
-    wholeLoad (record { sk = 1001; ce = 100; ct = 100; cesl = 100; situation = 0; altitude = 0 }) (record { pitch = 300; width = 1 }) 0 ≡ 801
+    wholeLoad (record { sk = 1001; ce = 100; ct = 100; cesl = 100; situation = 0; altitude = 0; day = Undated }) (record { pitch = 300; width = 1 }) 0 ≡ 801
 unfolding wholeLoad slopeLoad factorOf guarded mu1 load breakLoad roundedUp ceilDiv
 whole-801 = refl
 
 -- At 801 m under 1,250 N/m² 0° and 45.0° have S 1,000 and 500. Either eave has the overhang of 1,000, whichever slope is left; a third
 -- slope has none. A guard keeps S at 1,000 on 45.0° beside a bare slope: its force is 1,000 × 1 m × 0.707107.
 abbrev mountain : Site
-mountain = record { sk = 1250; ce = 100; ct = 100; cesl = 100; situation = 0; altitude = 801 }
+mountain = record { sk = 1250; ce = 100; ct = 100; cesl = 100; situation = 0; altitude = 801; day = Undated }
 
 abbrev flatSteep : Shape
 flatSteep = Pitched (record { pitch = 0; width = 1 }) (record { pitch = 450; width = 1 }) 0 0
@@ -317,38 +319,38 @@ module _ (site : Site) (roof : Roof) (n : ℕ) (slope : Slope) (guard : ℕ)
       (exact (slopeLoad site slope guard)) (whole-near site slope guard)
 
 -- the same of what the calls answer
-module _ (site : Site) (roof : Roof) (n : ℕ) where
+module _ (store : List ℕ) (site : Site) (roof : Roof) (n : ℕ) where
   -- from any unrounded S that the whole S of the roof is near
   pub answers-from :
-      (s : Fraction) → Near 1 1 (largerWhole site (roof .shape)) s → overhangDistance (overhangAnswer site roof n) s (slopeAt (roof .shape) n)
+      (s : Fraction) → Near 1 1 (largerWhole site (roof .shape)) s → overhangDistance (overhangAnswer store site roof n) s (slopeAt (roof .shape) n)
   unfolding overhangAnswer overhangAt
-  answers-from s c = go (eqb (figuresRefusal site roof) 0) (slopeAt (roof .shape) n) (ltb 800 (site .altitude))
+  answers-from s c = go (eqb (figuresRefusal store site roof) 0) (slopeAt (roof .shape) n) (ltb 800 (site .altitude))
     where
       go :
           (a : Bool) (at : SlopeAt) (b : Bool)
           → overhangDistance (cond a (cond (present at && b) (force (overhangForce (largerWhole site (roof .shape)))) none)
-          (refused (figuresRefusal site roof))) s at
+          (refused (figuresRefusal store site roof))) s at
       go true (someSlope slope guard) true = overhang-distance s (largerWhole site (roof .shape)) c
       go true (someSlope slope guard) false = tt
       go true noSlope b = tt
       go false at b = tt
 
-  pub overhang-answers : overhangDistance (overhangAnswer site roof n) (largerUnrounded site (roof .shape)) (slopeAt (roof .shape) n)
+  pub overhang-answers : overhangDistance (overhangAnswer store site roof n) (largerUnrounded site (roof .shape)) (slopeAt (roof .shape) n)
   overhang-answers = answers-from (largerUnrounded site (roof .shape)) (larger-near site (roof .shape))
 
-  pub guard-answers : guardDistance (guardAnswer site roof n) site (slopeAt (roof .shape) n)
+  pub guard-answers : guardDistance (guardAnswer store site roof n) site (slopeAt (roof .shape) n)
   unfolding guardAnswer guardAt
-  guard-answers = go (eqb (figuresRefusal site roof) 0) (slopeAt (roof .shape) n) refl refl
+  guard-answers = go (eqb (figuresRefusal store site roof) 0) (slopeAt (roof .shape) n) refl refl
     where
       guarded :
-          (b : Bool) (slope : Slope) (guard : ℕ) → figuresRefusal site roof ≡ 0 → slopeAt (roof .shape) n ≡ someSlope slope guard
+          (b : Bool) (slope : Slope) (guard : ℕ) → figuresRefusal store site roof ≡ 0 → slopeAt (roof .shape) n ≡ someSlope slope guard
           → guardDistance (cond b (force (guardForce (wholeLoad site slope guard) (slope .width) (slope .pitch))) none) site (someSlope slope guard)
-      guarded true slope guard h e = let p = none-broken _ _ h in guard-distance site roof n slope guard (p .0) (p .1) e
+      guarded true slope guard h e = let a = accepted store site roof h in guard-distance site roof n slope guard (a .site) (a .roof) e
       guarded false slope guard h e = tt
 
       go :
-          (b : Bool) (at : SlopeAt) → eqb (figuresRefusal site roof) 0 ≡ b → slopeAt (roof .shape) n ≡ at
-          → guardDistance (cond b (guardAt site at) (refused (figuresRefusal site roof))) site at
+          (b : Bool) (at : SlopeAt) → eqb (figuresRefusal store site roof) 0 ≡ b → slopeAt (roof .shape) n ≡ at
+          → guardDistance (cond b (guardAt site at) (refused (figuresRefusal store site roof))) site at
       go true noSlope h e = tt
       go true (someSlope slope guard) h e = guarded (eqb guard 1) slope guard (eqb-true _ 0 h) e
       go false at h e = tt

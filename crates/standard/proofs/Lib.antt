@@ -16,6 +16,7 @@ pub mod Projection
 pub mod Runs
 pub mod Segments
 pub mod Sine
+pub mod Stores
 pub mod Tenths
 pub mod TenthsFigures
 pub mod ValleyDrift

@@ -14,7 +14,7 @@ use Rattle.rounding.proofs.Limited.{chosen, smaller-positive, larger-positive, 
 use Rattle.standard.specs.Coefficients.{mu1, guarded, slopeMu, mu2, mu3, muWind, muSlide, muProjection}
 use Rattle.standard.specs.Numerators.{mu1Num, slopeNum, mu2Num, mu3Num, windNum, slideNum, projectionNum}
 use Rattle.standard.specs.Stretch.{load}
-use Rattle.standard.specs.declared.National.{National}
+use Rattle.figures.specs.declared.national.National.{National}
 
 eight-tenths : Same (over 8 10) (over 300 375)
 unfolding Same

@@ -1,6 +1,7 @@
 -- What document 02, A5 says of the overhang beside its distance: on kind 3 either eave has that of the larger S, none falls, kind 2 is
 -- unaffected; and a guarded slope has the larger S itself.
 use Prim.Native.Nat.{ℕ, _*_, _≤_, _<_, max}
+use mathlib.Core.List.{List}
 use mathlib.Core.Path.{_≡_, refl, ap, subst, _∙_}
 use mathlib.Core.Bool.{Bool, true, false, cond, _&&_, _||_}
 use lib.Dec.{ltb, eqb}
@@ -83,9 +84,9 @@ module _ (site : Site) (slope : Slope) (guard : ℕ) where
   monopitch-unaffected n = rw (monopitch-whole, one-present (eqb n 1))
 
   pub monopitch-answers :
-      (roof : Roof) (n : ℕ) → roof .shape ≡ Monopitch slope guard
-      → overhangDistance (overhangAnswer site roof n) (exact (slopeLoad site slope guard)) (slopeAt (roof .shape) n)
-  monopitch-answers roof n e = answers-from site roof n _ (rw (e, monopitch-whole) (whole-near site slope guard))
+      (store : List ℕ) (roof : Roof) (n : ℕ) → roof .shape ≡ Monopitch slope guard
+      → overhangDistance (overhangAnswer store site roof n) (exact (slopeLoad site slope guard)) (slopeAt (roof .shape) n)
+  monopitch-answers store roof n e = answers-from store site roof n _ (rw (e, monopitch-whole) (whole-near site slope guard))
 
 -- "The guard force keeps its own slope's S". No slope has more than 0.8, which a guarded one has, so its S is the larger one.
 guarded-mu : (slope other : Slope) (guard : ℕ) → guard ≤ 1 → Below (slopeMu other guard) (slopeMu slope 1)

@@ -1,6 +1,6 @@
 -- What working in tenths changes: no load that is returned rises, none drops by more than 2, and no position moves.
 use Prim.Native.Nat.{ℕ, zero, suc, _/_, _%_, _≤_, _<_}
-use mathlib.Core.List.{[], append-nil}
+use mathlib.Core.List.{List, [], append-nil}
 use mathlib.Core.Path.{_≡_, refl, subst, sym, _∙_}
 use lib.ListN.{length, getD, List·getD-eq-default}
 use native.Mathlib.Decide.{decLe}
@@ -9,12 +9,12 @@ use Rattle.figures.specs.RoofRules.{roofRefusal}
 use Rattle.figures.specs.SiteRules.{siteRefusal}
 use Rattle.figures.specs.declared.site.Site.{Site}
 use Rattle.figures.specs.declared.roof.Roof.{Roof}
-use Rattle.standard.specs.Answers.{value, loadAnswer}
+use Rattle.standard.specs.Answers.{value, nationalFor, loadAnswer}
 use Rattle.standard.specs.Arrangements.{count, stretch, arrangementInParts, arrangement, loadInParts, loadAt}
-use Rattle.standard.specs.Bounds.{NationalIn}
+use Rattle.figures.specs.Bounds.{NationalIn}
 use Rattle.standard.specs.Stretch.{Stretch, segment, segments}
 use Rattle.standard.specs.Tenths.{Changed}
-use Rattle.standard.specs.declared.National.{National}
+use Rattle.figures.specs.declared.national.National.{National}
 use Rattle.standard.proofs.Answered.{answered}
 use Rattle.standard.proofs.Demand.{well-formed}
 use Rattle.standard.proofs.Runs.{Readable, tenths-no-more, tenths-close, finer-greatest, tenths-greatest-close}
@@ -94,8 +94,9 @@ module _ (national : National) (site : Site) (roof : Roof) (code : ℕ)
 
 -- the same of what the call that reads a load answers
 pub answer-changes :
-    (national : National) (site : Site) (roof : Roof) (code p x : ℕ) → NationalIn national → loadAnswer national site roof code p ≡ value x
-    → Changed x (loadInParts 1 national site roof code p)
-answer-changes national site roof code p x hn e =
-    let a = answered national site roof code p x e in
-    rw (a .load) at (load-changes national site roof code hn (a .rules .site) (a .rules .roof) p)
+    (store : List ℕ) (site : Site) (roof : Roof) (code p x : ℕ) → loadAnswer store site roof code p ≡ value x
+    → Changed x (loadInParts 1 (nationalFor store site) site roof code p)
+answer-changes store site roof code p x e =
+    let a = answered store site roof code p x e in
+    let f = a .rules in
+    rw (a .load) at (load-changes (nationalFor store site) site roof code (f .national) (f .site) (f .roof) p)

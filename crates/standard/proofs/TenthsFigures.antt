@@ -5,6 +5,7 @@ use mathlib.Core.List.{List, [], _∷_}
 use mathlib.Core.Path.{_≡_, refl}
 use lib.ListN.{replicate}
 use Rattle.figures.specs.RoofRules.{roofOf, noSpans, slopeOf}
+use Rattle.figures.specs.declared.site.JobDay.the-variants.{Undated}
 use Rattle.figures.specs.declared.site.Site.{Site}
 use Rattle.figures.specs.declared.roof.Shape.the-variants.{MultiSpan, Abutting}
 use Rattle.figures.specs.declared.roof.Roof.{Roof}
@@ -15,13 +16,14 @@ use Rattle.rounding.specs.Ramp.{reading}
 use Rattle.rounding.specs.Up.{ceilDiv, roundedUp}
 use Rattle.standard.specs.Abutting.{wallLoad, abuttingDrift, abutting, abuttingCount}
 use Rattle.standard.specs.Arrangements.{factorOf, countIn, stretchIn, count, stretch, arrangementInParts, loadInParts}
-use Rattle.standard.specs.Coefficients.{recommendedFigures, mu1, guarded, mu2, driftLength, muWind, muSlide}
+use Rattle.figures.specs.National.{recommendedFigures}
+use Rattle.standard.specs.Coefficients.{mu1, guarded, mu2, driftLength, muWind, muSlide}
 use Rattle.standard.specs.MultiSpan.{ownLoad, valleyLoad, multiSpanFrom, multiSpanTo, multiSpan}
 use Rattle.standard.specs.Stretch.{load, readIn, startOf, segment, segments, holds, readingAt, greatest}
 use Rattle.standard.specs.ValleyDrift.{spansStretch, spansCount}
 
 abbrev site : ℕ → Site
-site sk = record { sk = sk; ce = 100; ct = 100; cesl = 200; situation = 0; altitude = 500 }
+site sk = record { sk = sk; ce = 100; ct = 100; cesl = 200; situation = 0; altitude = 500; day = Undated }
 
 -- a roof below one whose slope has 20.0°
 abbrev lower : ℕ → ℕ → ℕ → ℕ → Roof

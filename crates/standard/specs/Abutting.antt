@@ -7,7 +7,7 @@ use Rattle.figures.specs.declared.roof.Slope.{Slope}
 use Rattle.rounding.specs.Load.{Load}
 use Rattle.standard.specs.Coefficients.{driftLength, muWind, muSlide}
 use Rattle.standard.specs.Stretch.{Stretch, even, load, eightTenths}
-use Rattle.standard.specs.declared.National.{National}
+use Rattle.figures.specs.declared.national.National.{National}
 
 -- the drift length, held to the national range
 abbrev pub abuttingLength : National → ℕ → ℕ

@@ -21,7 +21,7 @@ use Rattle.standard.specs.Projection.{projectionLength, projection, proj
 use Rattle.standard.specs.Stretch.{Stretch, segments, greatest, exactGreatest}
 use Rattle.standard.specs.Units.{parts}
 use Rattle.standard.specs.ValleyDrift.{spansStretch, spansCount, spansRamped}
-use Rattle.standard.specs.declared.National.{National}
+use Rattle.figures.specs.declared.national.National.{National}
 
 -- Cesl, which is 1 for the persistent codes, in hundredths
 abbrev pub exceptionalOf : Site → ℕ → ℕ

@@ -5,11 +5,7 @@ use lib.Dec.{leb, ltb, eqb}
 use Rattle.rounding.specs.Fraction.{Fraction, over, sum}
 use Rattle.rounding.specs.Limit.{smaller, larger, heldTo}
 use Rattle.figures.specs.declared.roof.Slope.{Slope}
-use Rattle.standard.specs.declared.National.{National}
-
--- the recommended upper value of μ3 (5.3.5), range of μw and range of drift lengths (5.3.6)
-abbrev pub recommendedFigures : National
-recommendedFigures = record { arch = 200; low = 80; high = 400; short = 5000; long = 15000 }
+use Rattle.figures.specs.declared.national.National.{National}
 
 -- Table 5.2: μ1 is 0.8 up to 30°; 0.8(60 − α)/30 between; 0 from 60°
 unfoldable pub mu1 : ℕ → Fraction

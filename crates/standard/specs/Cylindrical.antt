@@ -7,7 +7,7 @@ use Rattle.rounding.specs.Fraction.{over}
 use Rattle.rounding.specs.Load.{Load}
 use Rattle.standard.specs.Coefficients.{mu3}
 use Rattle.standard.specs.Stretch.{Stretch, even, ramp, loadAlone, eightTenths, noLoad}
-use Rattle.standard.specs.declared.National.{National}
+use Rattle.figures.specs.declared.national.National.{National}
 
 -- the first number from n on that a test takes, of at most k tries
 unfoldable pub firstFrom : (ℕ → Bool) → ℕ → ℕ → ℕ

@@ -1,6 +1,7 @@
 -- Local forces, kinds 2 and 3, persistent, in N/m: the overhang at an eave and the force at a guard.
 use Prim.Native.Nat.{ℕ, _+_, _*_, _<_, max}
 use mathlib.Core.Bool.{cond, _&&_}
+use mathlib.Core.List.{List}
 use lib.Dec.{ltb, eqb}
 use Rattle.figures.specs.Refusals.{figuresRefusal}
 use Rattle.figures.specs.Slopes.{SlopeAt, noSlope, someSlope, slopeAt, present}
@@ -68,9 +69,9 @@ unfoldable pub overhangAt : Site → Shape → ℕ → Force
 overhangAt site shape n =
     cond (present (slopeAt shape n) && ltb 800 (site .altitude)) (force (overhangForce (largerWhole site shape))) none
 
-unfoldable pub overhangAnswer : Site → Roof → ℕ → Force
-overhangAnswer site roof n =
-    cond (eqb (figuresRefusal site roof) 0) (overhangAt site (roof .shape) n) (refused (figuresRefusal site roof))
+unfoldable pub overhangAnswer : List ℕ → Site → Roof → ℕ → Force
+overhangAnswer store site roof n =
+    cond (eqb (figuresRefusal store site roof) 0) (overhangAt site (roof .shape) n) (refused (figuresRefusal store site roof))
 
 -- "The guard force keeps its own slope's S": at a slope that the roof has and that has a guard
 unfoldable pub guardAt : Site → SlopeAt → Force
@@ -78,9 +79,9 @@ guardAt site noSlope = none
 guardAt site (someSlope slope guard) =
     cond (eqb guard 1) (force (guardForce (wholeLoad site slope guard) (slope .width) (slope .pitch))) none
 
-unfoldable pub guardAnswer : Site → Roof → ℕ → Force
-guardAnswer site roof n =
-    cond (eqb (figuresRefusal site roof) 0) (guardAt site (slopeAt (roof .shape) n)) (refused (figuresRefusal site roof))
+unfoldable pub guardAnswer : List ℕ → Site → Roof → ℕ → Force
+guardAnswer store site roof n =
+    cond (eqb (figuresRefusal store site roof) 0) (guardAt site (slopeAt (roof .shape) n)) (refused (figuresRefusal store site roof))
 
 -- r is not below f, and less than 10 above it
 pub record OverhangNear (r : ℕ) (f : Fraction) : Type 0 where

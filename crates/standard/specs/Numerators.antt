@@ -4,7 +4,7 @@ use Prim.Native.Nat.{ℕ, _+_, _-_, _*_, min, max}
 use mathlib.Core.Bool.{cond}
 use lib.Dec.{leb}
 use Rattle.figures.specs.declared.roof.Slope.{Slope}
-use Rattle.standard.specs.declared.National.{National}
+use Rattle.figures.specs.declared.national.National.{National}
 
 -- 375 × μ1
 unfoldable pub mu1Num : ℕ → ℕ

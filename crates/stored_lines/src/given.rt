@@ -1,8 +1,10 @@
 // The site and the roof that a line gives, from one of its numbers on.
 ghost use Prim.Native.Nat.{_≤_, _<_};
 use crate::words::MISSING;
+use crate::words::NONE;
 use crate::words::count_of;
 use crate::words::number;
+use figures::JobDay;
 use figures::Roof;
 use figures::SPAN_NUMBERS;
 use figures::Shape;
@@ -43,7 +45,16 @@ pub fn byte(number: u32) -> u8 {
     (number % 256) as u8
 }
 
-pub fn site_of(text: &[u8], at: usize, first: u32) -> Site {
+// The day of a job by its number, or none.
+pub fn day_of(number: u32) -> JobDay {
+    if number == NONE {
+        return JobDay::Undated;
+    }
+    JobDay::Dated(short(number))
+}
+
+// A site whose job has a day, or none.
+pub fn site_of(text: &[u8], at: usize, first: u32, day: JobDay) -> Site {
     let row = row_of(text, at, first);
     Site {
         sk: row.a,
@@ -52,6 +63,7 @@ pub fn site_of(text: &[u8], at: usize, first: u32) -> Site {
         cesl: short(row.d),
         situation: byte(row.e),
         altitude: short(row.f),
+        day: day,
     }
 }
 

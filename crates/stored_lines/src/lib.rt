@@ -3,6 +3,7 @@ mod given;
 mod words;
 
 pub use given::byte;
+pub use given::day_of;
 pub use given::fits;
 pub use given::roof_of;
 pub use given::site_of;

@@ -2,8 +2,8 @@
 ghost use Prim.Native.Nat.{_≤_, _<_};
 ghost use lib.ListN.{length};
 
-// What - stands for: no force.
-const NO_FORCE: u32 = 4_294_967_295;
+// What - stands for: no force, no day.
+pub const NONE: u32 = 4_294_967_295;
 
 // In the place of a number: nothing yet, and a word.
 const EMPTY: u32 = 4_000_000_000;
@@ -49,13 +49,13 @@ pub fn word_of(text: &[u8], at: usize) -> u64 {
     word
 }
 
-// A number with one more byte: a digit, or - for no force. A blank or the line's end is the place before the next number.
+// A number with one more byte: a digit, or - for none. A blank or the line's end is the place before the next number.
 fn with_byte(number: u32, byte: u8) -> u32 {
     if byte <= b' ' {
         return EMPTY;
     }
     if byte == b'-' {
-        return NO_FORCE;
+        return NONE;
     }
     let before = if number == EMPTY { 0 } else { number };
     if b'0' <= byte {

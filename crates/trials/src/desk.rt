@@ -1,4 +1,4 @@
-// The quote desk's reading of one sheet beside a terminal's: the verdict, where each item lies, and each item.
+// The quote desk's reading of one sheet, with a store, beside a terminal's: the verdict, where each item lies, and each item.
 use check::same;
 use sheet::Caller;
 use sheet::Located;
@@ -27,8 +27,8 @@ fn equal(a: Numbers, b: Numbers) -> bool {
     (a.refusal == b.refusal) & (a.first == b.first) & (a.second == b.second)
 }
 
-fn verdict_of(sheet: &[u8], caller: Caller) -> Numbers {
-    match sheet::verdict(sheet, caller) {
+fn verdict_of(store: &[u32], sheet: &[u8], caller: Caller) -> Numbers {
+    match sheet::verdict(store, sheet, caller) {
         Verdict::Accepted(n) => Numbers {
             refusal: 0,
             first: n,
@@ -42,8 +42,8 @@ fn verdict_of(sheet: &[u8], caller: Caller) -> Numbers {
     }
 }
 
-fn place_of(sheet: &[u8], caller: Caller, index: usize) -> Numbers {
-    match sheet::locate(sheet, caller, index) {
+fn place_of(store: &[u32], sheet: &[u8], caller: Caller, index: usize) -> Numbers {
+    match sheet::locate(store, sheet, caller, index) {
         Located::At(offset, size) => Numbers {
             refusal: 0,
             first: offset,
@@ -66,29 +66,29 @@ pub fn inside(sheet: &[u8]) -> bool {
 }
 
 // Whether an index gives the desk what it gives a terminal.
-fn same_item(sheet: &[u8], index: usize) -> bool {
+fn same_item(store: &[u32], sheet: &[u8], index: usize) -> bool {
     let part = same(
-        sheet::item(sheet, Caller::Desk, index),
-        sheet::item(sheet, Caller::Terminal, index),
+        sheet::item(store, sheet, Caller::Desk, index),
+        sheet::item(store, sheet, Caller::Terminal, index),
     );
-    let desk = place_of(sheet, Caller::Desk, index);
-    equal(desk, place_of(sheet, Caller::Terminal, index)) & part
+    let desk = place_of(store, sheet, Caller::Desk, index);
+    equal(desk, place_of(store, sheet, Caller::Terminal, index)) & part
 }
 
 // Whether an index gives the desk nothing but 1.
-fn no_item(sheet: &[u8], index: usize) -> bool {
-    let part = sheet::item(sheet, Caller::Desk, index);
-    equal(place_of(sheet, Caller::Desk, index), passed()) & (part.len() == 0)
+fn no_item(store: &[u32], sheet: &[u8], index: usize) -> bool {
+    let part = sheet::item(store, sheet, Caller::Desk, index);
+    equal(place_of(store, sheet, Caller::Desk, index), passed()) & (part.len() == 0)
 }
 
 // Whether each index gives what it must.
-fn items_agree(sheet: &[u8], inside: bool) -> bool {
+fn items_agree(store: &[u32], sheet: &[u8], inside: bool) -> bool {
     let mut i = 0;
     while i < INDEXES {
         let agrees = if inside {
-            same_item(sheet, i)
+            same_item(store, sheet, i)
         } else {
-            no_item(sheet, i)
+            no_item(store, sheet, i)
         };
         if !agrees {
             return false;
@@ -99,13 +99,13 @@ fn items_agree(sheet: &[u8], inside: bool) -> bool {
 }
 
 // Whether the desk reads the sheet as a terminal does where it is inside the ceiling, and otherwise refuses it by 1.
-pub fn agrees(sheet: &[u8]) -> bool {
+pub fn agrees(store: &[u32], sheet: &[u8]) -> bool {
     let inside = inside(sheet);
-    let desk = verdict_of(sheet, Caller::Desk);
+    let desk = verdict_of(store, sheet, Caller::Desk);
     let expected = if inside {
-        verdict_of(sheet, Caller::Terminal)
+        verdict_of(store, sheet, Caller::Terminal)
     } else {
         passed()
     };
-    equal(desk, expected) & items_agree(sheet, inside)
+    equal(desk, expected) & items_agree(store, sheet, inside)
 }

@@ -2,7 +2,7 @@
 ghost use mathlib.Core.Path.{_≡_};
 ghost use mathlib.Core.Bool.{true};
 ghost use Prim.Native.Nat.{_≤_};
-ghost use lib.ListN.{length};
+ghost use lib.ListN.{length, replicate};
 ghost use Rattle.listing.specs.Listing.{listing, listRoom};
 use crate::desk;
 use sheet::Caller;
@@ -18,34 +18,35 @@ pub struct Outcome {
 }
 
 // Whether the library refuses the sheet.
-fn refused(sheet: &[u8]) -> bool {
-    match sheet::verdict(sheet, Caller::Terminal) {
+fn refused(store: &[u32], sheet: &[u8]) -> bool {
+    match sheet::verdict(store, sheet, Caller::Terminal) {
         Verdict::Accepted(_) => false,
         Verdict::Refused(_, _) => true,
     }
 }
 
 // Whether the listing of the sheet is the text, byte for byte.
-fn agrees(sheet: &[u8], text: &[u8], room: &mut [u8]) -> bool
+fn agrees(store: &[u32], sheet: &[u8], text: &[u8], room: &mut [u8]) -> bool
     requires { ⌜ listRoom ≤ length (now room) ⌝ }
-    ensures { λ r. ⌜ (r ≡ true → listing (now (sheet .entry)) ≡ now (text .entry)) ⌝ }
-    ensures { λ r. ⌜ (listing (now (sheet .entry)) ≡ now (text .entry) → r ≡ true) ⌝ }
+    ensures { λ r. ⌜ (r ≡ true → listing (now (store .entry)) (now (sheet .entry)) ≡ now (text .entry)) ⌝ }
+    ensures { λ r. ⌜ (listing (now (store .entry)) (now (sheet .entry)) ≡ now (text .entry) → r ≡ true) ⌝ }
 {
     let mut numbers = [0; listing::NUMBERS];
-    let n = listing::list(sheet, &mut numbers, room);
+    let n = listing::list(store, sheet, &mut numbers, room);
     check::same(&room[..n], text)
 }
 
-// How the sheet compares with its stored text.
+// How the sheet compares with its stored text, which is the listing with an empty store.
 pub fn compare(sheet: &[u8], text: &[u8], room: &mut [u8]) -> Outcome
     requires { ⌜ listRoom ≤ length (now room) ⌝ }
-    ensures { λ r. ⌜ (r .agrees ≡ true → listing (now (sheet .entry)) ≡ now (text .entry)) ⌝ }
-    ensures { λ r. ⌜ (listing (now (sheet .entry)) ≡ now (text .entry) → r .agrees ≡ true) ⌝ }
+    ensures { λ r. ⌜ (r .agrees ≡ true → listing (replicate 193 0) (now (sheet .entry)) ≡ now (text .entry)) ⌝ }
+    ensures { λ r. ⌜ (listing (replicate 193 0) (now (sheet .entry)) ≡ now (text .entry) → r .agrees ≡ true) ⌝ }
 {
+    let store = [0u32; 193];
     Outcome {
-        refused: refused(sheet),
-        agrees: agrees(sheet, text, room),
+        refused: refused(&store, sheet),
+        agrees: agrees(&store, sheet, text, room),
         inside: desk::inside(sheet),
-        desk_agrees: desk::agrees(sheet),
+        desk_agrees: desk::agrees(&store, sheet),
     }
 }

@@ -9,7 +9,7 @@ use Rattle.item_forms.specs.Forms.{sized}
 use Rattle.order.specs.Order.{lowest, ready, nextRoof, added, firstRoofs, order}
 use Rattle.pairs.specs.Pairs.{Answer, accepted, refused, inTurn}
 use Rattle.roof_items.specs.RoofItems.{monopitchItem, abuttingItem, lowerItem}
-use Rattle.site_items.specs.SiteItems.{siteItem}
+use Rattle.site_items.specs.SiteItems.{siteSized, siteItem}
 use Rattle.upper_items.specs.Uppers.{upper, roofOrder}
 use Rattle.upper_rules.specs.UpperRules.{upperNumber, circleNumber, uppersVerdict}
 
@@ -37,14 +37,14 @@ verdict i j last = uppersVerdict (sheet i j last) 4
 pub sixteen :
     (verdict 2 3 shed ∷ verdict 3 3 shed ∷ verdict 0 3 shed ∷ verdict 3 0 shed ∷ verdict 4 3 shed ∷ verdict 3 255 shed ∷ verdict 3 1 abutting ∷ [])
     ≡ (accepted 4 ∷ accepted 4 ∷ refused 16 1 ∷ refused 16 2 ∷ refused 16 1 ∷ refused 16 2 ∷ refused 16 1 ∷ [])
-unfolding uppersVerdict upperNumber circleNumber comesBack meets upper inTurn content byKind siteItem monopitchItem abuttingItem lowerItem sized
+unfolding uppersVerdict upperNumber circleNumber comesBack meets upper inTurn content byKind siteItem siteSized monopitchItem abuttingItem lowerItem sized
 sixteen = refl
 
 -- a roof under itself, two under each other, three in a circle, one that leads into a circle of two or of one; 16 comes before 17
 pub seventeen :
     (verdict 1 3 shed ∷ verdict 2 1 shed ∷ verdict 2 3 (lower 1) ∷ verdict 2 3 (lower 2) ∷ verdict 3 2 shed ∷ verdict 2 1 (lower 0) ∷ [])
     ≡ (refused 17 1 ∷ refused 17 1 ∷ refused 17 1 ∷ refused 17 2 ∷ refused 17 2 ∷ refused 16 3 ∷ [])
-unfolding uppersVerdict upperNumber circleNumber comesBack meets upper inTurn content byKind siteItem monopitchItem abuttingItem lowerItem sized
+unfolding uppersVerdict upperNumber circleNumber comesBack meets upper inTurn content byKind siteItem siteSized monopitchItem abuttingItem lowerItem sized
 seventeen = refl
 
 -- a lean-to (1) under an aisle (2) under the last; both under the last; the second under the first under the last

@@ -8,6 +8,7 @@ use mathlib.Core.List.{List, [], _∷_}
 use lib.ListN.{replicate}
 use Rattle.figures.specs.RoofRules.{roofOf, noSpans, slopeOf, slopesFields, steepValleys, shapeRefusal, roofRefusal}
 use Rattle.figures.specs.Rules.{firstOf}
+use Rattle.figures.specs.declared.site.JobDay.the-variants.{Undated}
 use Rattle.figures.specs.declared.site.Site.{Site}
 use Rattle.figures.specs.declared.roof.Slope.{Slope}
 use Rattle.figures.specs.declared.roof.Shape.the-variants.{Monopitch, Pitched, MultiSpan, Cylindrical, Abutting}
@@ -19,7 +20,8 @@ use Rattle.rounding.specs.Ramp.{reading}
 use Rattle.rounding.specs.Up.{ceilDiv, roundedUp}
 use Rattle.standard.specs.Abutting.{wallLoad, abuttingDrift, abutting, abuttingCount}
 use Rattle.standard.specs.Arrangements.{factorOf, countIn, stretchIn, count, stretch, arrangementInParts, arrangement, loadInParts, loadAt}
-use Rattle.standard.specs.Coefficients.{recommendedFigures, mu1, guarded, mu2, mu3, driftLength, muWind, muSlide}
+use Rattle.figures.specs.National.{recommendedFigures}
+use Rattle.standard.specs.Coefficients.{mu1, guarded, mu2, mu3, driftLength, muWind, muSlide}
 use Rattle.standard.specs.Cylindrical.{firstFrom, wideEnough, loadedWidth, archEven, archDrift, peakLoad, halfLoad, cylindrical, cylindricalCount}
 use Rattle.standard.specs.Forces.{overhangRule, overhangForce}
 use Rattle.standard.specs.Monopitch.{monopitch}
@@ -29,7 +31,7 @@ use Rattle.standard.specs.Stretch.{load, readIn, startOf, segment, segments, ho
 use Rattle.standard.specs.ValleyDrift.{spansStretch, spansCount}
 
 abbrev pub siteOf : ℕ → Site
-siteOf sk = record { sk = sk; ce = 100; ct = 100; cesl = 200; situation = 0; altitude = 500 }
+siteOf sk = record { sk = sk; ce = 100; ct = 100; cesl = 200; situation = 0; altitude = 500; day = Undated }
 
 abbrev pub slopeOfPitch : ℕ → ℕ → Slope
 slopeOfPitch pitch width = record { pitch = pitch; width = width }

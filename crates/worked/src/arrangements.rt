@@ -1,5 +1,6 @@
 // The maker against the expected segments.
 ghost use Prim.Native.Nat.{_≤_, _<_};
+use super::jobs::Job;
 use arrangement::Made;
 use figures::Roof;
 use figures::Site;
@@ -21,13 +22,14 @@ fn made_number(made: Made) -> usize {
 }
 
 // The number expected at a place of the slice after an answer: of its segments, and blank behind them.
-fn expected(site: Site, roof: Roof, code: u8, answer: usize, place: usize) -> u32
+fn expected(job: Job, roof: Roof, code: u8, answer: usize, place: usize) -> u32
     requires { ⌜ place < 128 ⌝ }
 {
     if (answer <= place / 4) | (32 < answer) {
         return BLANK;
     }
-    let segment = second::segment_at(roof, code, site.sk, place / 4);
+    let site = job.site;
+    let segment = second::segment_at(job.national, roof, code, site.sk, place / 4);
     let station = if place % 2 == 0 {
         segment.start
     } else {
@@ -45,10 +47,10 @@ fn expected(site: Site, roof: Roof, code: u8, answer: usize, place: usize) -> u3
 }
 
 // Whether the slice holds other numbers.
-fn differs(site: Site, roof: Roof, code: u8, answer: usize, out: &[u32; 128]) -> bool {
+fn differs(job: Job, roof: Roof, code: u8, answer: usize, out: &[u32; 128]) -> bool {
     let mut i = 0;
     while i < 128 {
-        if out[i] != expected(site, roof, code, answer, i) {
+        if out[i] != expected(job, roof, code, answer, i) {
             return true;
         }
         i += 1;
@@ -57,26 +59,27 @@ fn differs(site: Site, roof: Roof, code: u8, answer: usize, out: &[u32; 128]) ->
 }
 
 // How many segments are made in a slice of so many numbers, or the refusal; the slice holds what is expected.
-pub fn made(site: Site, roof: Roof, code: u8, room: usize) -> usize
+pub fn made(store: &[u32], job: Job, roof: Roof, code: u8, room: usize) -> usize
     requires { ⌜ room ≤ 128 ⌝ }
 {
     let mut out = [BLANK; 128];
-    let answer = made_number(arrangement::make(site, roof, code, &mut out[..room]));
-    if differs(site, roof, code, answer, &out) {
+    let site = job.site;
+    let answer = made_number(arrangement::make(store, site, roof, code, &mut out[..room]));
+    if differs(job, roof, code, answer, &out) {
         return OTHER_NUMBERS;
     }
     answer
 }
 
 // The slice that the maker fills.
-pub fn numbers(site: Site, roof: Roof, code: u8) -> [u32; 128] {
+pub fn numbers(store: &[u32], site: Site, roof: Roof, code: u8) -> [u32; 128] {
     let mut out = [BLANK; 128];
-    arrangement::make(site, roof, code, &mut out);
+    arrangement::make(store, site, roof, code, &mut out);
     out
 }
 
 // A number of that slice.
-pub fn number_at(site: Site, roof: Roof, code: u8, place: u32) -> u32 {
-    let out = numbers(site, roof, code);
+pub fn number_at(store: &[u32], site: Site, roof: Roof, code: u8, place: u32) -> u32 {
+    let out = numbers(store, site, roof, code);
     out[(place % 128) as usize]
 }

@@ -1,5 +1,5 @@
 // Local forces at the slopes of a roof, and at every pitch, against the second calculation.
-use super::tally::compared;
+use counts::compared;
 use figures::Roof;
 use figures::SPAN_NUMBERS;
 use figures::Shape;
@@ -18,12 +18,12 @@ pub fn newtons(force: LocalForce) -> u32 {
 }
 
 // Both forces at one of the slopes 0 to 3.
-pub fn slope(count: u64, site: Site, roof: Roof, slope: u8) -> u64 {
+pub fn slope(count: u64, store: &[u32], site: Site, roof: Roof, slope: u8) -> u64 {
     if 3 < slope {
         return count;
     }
-    let eave = newtons(local_forces::overhang(site, roof, slope));
-    let guard = newtons(local_forces::guard_force(site, roof, slope));
+    let eave = newtons(local_forces::overhang(store, site, roof, slope));
+    let guard = newtons(local_forces::guard_force(store, site, roof, slope));
     let one = compared(count, eave != second::overhang(site, roof, slope));
     compared(one, guard != second::guard_force(site, roof, slope))
 }
@@ -45,10 +45,10 @@ fn guarded(pitch: u32, width: u32) -> Roof {
 }
 
 // A guarded slope at every twelfth pitch.
-pub fn pitches(mut count: u64, site: Site, first: u32, width: u32) -> u64 {
+pub fn pitches(mut count: u64, store: &[u32], site: Site, first: u32, width: u32) -> u64 {
     let mut pitch = first;
     while pitch <= 800 {
-        count = slope(count, site, guarded(pitch, width), 1);
+        count = slope(count, store, site, guarded(pitch, width), 1);
         pitch += 12;
     }
     count

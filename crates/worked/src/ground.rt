@@ -1,5 +1,5 @@
 // The ground load of every place on the map, and of places beside it, against the second calculation.
-use super::tally::compared;
+use counts::compared;
 use map_sites::GroundLoad;
 use second_ground::REFUSED;
 use stored_lines::byte;

@@ -1,11 +1,12 @@
 // Reads stored cases: figures of documents 01 and 02, figures outside their ranges, and many roofs. Runs each through the
-// maker, the reader and the local forces, asks for the ground load of every place on the map, holds every answer to the
-// stored figure or to a second calculation, and writes what it counted.
+// maker, the reader and the local forces, asks for the ground load of every place on the map, tries stores of national sets, holds
+// every answer to the stored figure or to a second calculation, and writes what it counted.
 mod arrangements;
 mod cases;
 mod drops;
 mod forces;
 mod ground;
+mod jobs;
 mod lines;
 mod readings;
 mod refusals;
@@ -42,7 +43,11 @@ fn file(tally: Tally, i: usize) -> Tally {
 fn main() {
     let document = file(tally::nothing(), 1);
     let refusals = file(document, 2);
-    let mut tally = file(refusals, 3);
+    let cases = file(refusals, 3);
+    let mut tally = file(cases, 4);
     tally.ground = ground::places(tally.ground);
+    tally.days = worked_sets::sets_on_days();
+    tally.stores = worked_sets::every_store();
+    tally.sets = worked_sets::sets_added();
     report::report(tally);
 }

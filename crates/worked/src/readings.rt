@@ -1,10 +1,12 @@
 // The reader against the load expected at a station, and against the exact load there.
 ghost use Prim.Native.Nat.{_≤_, _<_};
 use super::drops::dropped;
-use super::tally::DIFFERENT;
+use super::jobs::Job;
 use super::tally::Readings;
-use super::tally::compared;
-use super::tally::more;
+use counts::DIFFERENT;
+use counts::compared;
+use counts::more;
+use figures::National;
 use figures::Roof;
 use figures::Site;
 use reading::Reading;
@@ -25,15 +27,23 @@ fn load_of(reading: Reading) -> u32 {
 }
 
 // The load at a station, or the refusal.
-pub fn load(site: Site, roof: Roof, code: u8, station: u32) -> u32 {
-    load_of(reading::load_at(site, roof, code, station))
+pub fn load(store: &[u32], site: Site, roof: Roof, code: u8, station: u32) -> u32 {
+    load_of(reading::load_at(store, site, roof, code, station))
 }
 
 // The greatest number of thousandths that the load lies above the exact one, or the worst so far if that is more.
-fn worst_of(ground: Ground, roof: Roof, code: u8, station: u32, load: u32, worst: u32) -> u32 {
+fn worst_of(
+    national: National,
+    ground: Ground,
+    roof: Roof,
+    code: u8,
+    station: u32,
+    load: u32,
+    worst: u32,
+) -> u32 {
     let mut further = worst;
     while further < FAR {
-        if !second::apart(ground, roof, code, station, load, further + 1) {
+        if !second::apart(national, ground, roof, code, station, load, further + 1) {
             return further;
         }
         further += 1;
@@ -42,30 +52,39 @@ fn worst_of(ground: Ground, roof: Roof, code: u8, station: u32, load: u32, worst
 }
 
 // Whether the load falls where the ground load is one more.
-fn falls(site: Site, roof: Roof, code: u8, station: u32, lighter: u32) -> bool {
+fn falls(store: &[u32], site: Site, roof: Roof, code: u8, station: u32, lighter: u32) -> bool {
     if 25_000 <= site.sk {
         return false;
     }
     let mut heavier = site;
     heavier.sk = site.sk + 1;
-    load(heavier, roof, code, station) < lighter
+    load(store, heavier, roof, code, station) < lighter
 }
 
 // One station.
-fn station(count: Readings, site: Site, roof: Roof, code: u8, station: u32) -> Readings {
+fn station(
+    count: Readings,
+    store: &[u32],
+    job: Job,
+    roof: Roof,
+    code: u8,
+    station: u32,
+) -> Readings {
+    let site = job.site;
+    let national = job.national;
     let ground = second::ground_of(site, code);
-    let load = load(site, roof, code, station);
-    let expected = second::load_read(ground, roof, code, station, second::TENTHS);
-    let before = second::load_read(ground, roof, code, station, second::WHOLE);
-    let low = !second::apart(ground, roof, code, station, load, 0);
-    let far = second::apart(ground, roof, code, station, load, FAR);
-    let falls = falls(site, roof, code, station, load);
+    let load = load(store, site, roof, code, station);
+    let expected = second::load_read(national, ground, roof, code, station, second::TENTHS);
+    let before = second::load_read(national, ground, roof, code, station, second::WHOLE);
+    let low = !second::apart(national, ground, roof, code, station, load, 0);
+    let far = second::apart(national, ground, roof, code, station, load, FAR);
+    let falls = falls(store, site, roof, code, station, load);
     Readings {
         loads: compared(count.loads, load != expected),
         low: more(count.low, low as usize),
         far: more(count.far, far as usize),
         falling: more(count.falling, falls as usize),
-        worst: worst_of(ground, roof, code, station, load, count.worst),
+        worst: worst_of(national, ground, roof, code, station, load, count.worst),
         drops: dropped(count.drops, before, load),
     }
 }
@@ -98,14 +117,22 @@ fn station_at(segment: Segment, k: usize, count: u64) -> u32 {
 }
 
 // The stations of n segments.
-pub fn stations(mut count: Readings, site: Site, roof: Roof, code: u8, n: usize) -> Readings
+pub fn stations(
+    mut count: Readings,
+    store: &[u32],
+    job: Job,
+    roof: Roof,
+    code: u8,
+    n: usize,
+) -> Readings
     requires { ⌜ n ≤ 32 ⌝ }
 {
+    let sk = job.site.sk;
     let mut i = 0;
     while i < 6 * n {
-        let segment = second::segment_at(roof, code, site.sk, i / 6);
+        let segment = second::segment_at(job.national, roof, code, sk, i / 6);
         let at = station_at(segment, i % 6, count.loads);
-        count = station(count, site, roof, code, at);
+        count = station(count, store, job, roof, code, at);
         i += 1;
     }
     count

@@ -1,4 +1,6 @@
-// What is counted. A count has the answers in its lower half, and those that differ in its upper half.
+// What is counted.
+use worked_sets::Sets;
+use worked_sets::Stores;
 
 // Loads by how far they lie below what they were before A4: not at all, by 1, by 2, or otherwise, as one that rose; and the worst drop.
 pub struct Drops {
@@ -30,28 +32,9 @@ pub struct Tally {
     pub readings: Readings,
     pub forces: u64,
     pub ground: u64,
-}
-
-// One answer that differs.
-pub const DIFFERENT: u64 = 4_294_967_296;
-
-// More by some, of which there are less than 100.
-pub fn more(count: u64, n: usize) -> u64 {
-    if count < 9_000_000_000_000_000_000 {
-        count + (n % 100) as u64
-    } else {
-        count
-    }
-}
-
-// One more answer, and whether it differs.
-pub fn compared(count: u64, other: bool) -> u64 {
-    if other {
-        if count < 9_000_000_000_000_000_000 {
-            return count + DIFFERENT + 1;
-        }
-    }
-    more(count, 1)
+    pub days: u64,
+    pub stores: Stores,
+    pub sets: Sets,
 }
 
 // Nothing yet.
@@ -81,5 +64,14 @@ pub fn nothing() -> Tally {
         readings: readings,
         forces: 0,
         ground: 0,
+        days: 0,
+        stores: Stores {
+            accepted: 0,
+            refused: 0,
+        },
+        sets: Sets {
+            added: 0,
+            refused: 0,
+        },
     }
 }

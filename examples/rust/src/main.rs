@@ -1,5 +1,5 @@
-//! Asks the calls about one sheet and about some ground loads, prints every answer and checks what
-//! the header says of them.
+//! Asks the calls about one sheet, about some ground loads and about sets of national figures, prints
+//! every answer and checks what the header says of them. The sheet is asked about with an empty store.
 //!
 //!     terminal_example SHEET         all answers; the exit code is 1 where a check fails
 //!     terminal_example SHEET list    the listing alone
@@ -11,10 +11,12 @@ use std::fs;
 use std::io::{self, Write};
 use std::process::ExitCode;
 
-use snow::Answer;
+use snow::{Answer, EMPTY_STORE, STORE_NUMBERS};
 
 /// 32 segments of four numbers, the most there are.
 const SLICE: usize = 128;
+/// Numbers of a set.
+const FIELDS: usize = 6;
 /// Fills memory before it is lent.
 const MARK_BYTE: u8 = 0xA5;
 const MARK: u32 = u32::from_ne_bytes([MARK_BYTE; 4]);
@@ -67,7 +69,7 @@ impl Caller {
     /// Lends a marked slice. A refusal alters nothing of it, an answer only the segments at its front.
     fn make(&mut self, item: usize, code: u8, room: usize) -> (Answer, [u32; SLICE]) {
         let mut out = [MARK; SLICE];
-        let answer = snow::make(&self.sheet, item, code, &mut out[..room]);
+        let answer = snow::make(&EMPTY_STORE, &self.sheet, item, code, &mut out[..room]);
         let written = 4 * answer.value().unwrap_or(0) as usize;
         let kept = out.iter().skip(written).all(|&number| number == MARK);
         self.check(kept, "snow_make altered more than its segments", item);
@@ -75,7 +77,7 @@ impl Caller {
     }
 
     fn load(&self, item: usize, code: u8, station: u32) -> Answer {
-        let answer = snow::load(&self.sheet, item, code, station);
+        let answer = snow::load(&EMPTY_STORE, &self.sheet, item, code, station);
         println!(
             "LOAD {item} {code} at {station}: {}",
             answer.with_unit("N/m2")
@@ -134,8 +136,8 @@ impl Caller {
 
     /// The forces at eave and guard of one slope; how many there are.
     fn ask_slope(&self, item: usize, slope: u8) -> usize {
-        let overhang = snow::overhang(&self.sheet, item, slope);
-        let guard = snow::guard_force(&self.sheet, item, slope);
+        let overhang = snow::overhang(&EMPTY_STORE, &self.sheet, item, slope);
+        let guard = snow::guard_force(&EMPTY_STORE, &self.sheet, item, slope);
         println!(
             "OVERHANG {item} slope {slope}: {}",
             overhang.with_unit("N/m")
@@ -164,9 +166,9 @@ impl Caller {
 
     /// Every call that asks for this item gives the same refusal.
     fn check_refused(&mut self, item: usize, refusal: Answer) {
-        let reading = snow::load(&self.sheet, item, 1, 0);
-        let overhang = snow::overhang(&self.sheet, item, 1);
-        let guard = snow::guard_force(&self.sheet, item, 1);
+        let reading = snow::load(&EMPTY_STORE, &self.sheet, item, 1, 0);
+        let overhang = snow::overhang(&EMPTY_STORE, &self.sheet, item, 1);
+        let guard = snow::guard_force(&EMPTY_STORE, &self.sheet, item, 1);
         let (made, _) = self.make(item, 1, SLICE);
         self.check(made == refusal, "snow_make refuses otherwise", item);
         self.check(reading == refusal, "snow_load refuses otherwise", item);
@@ -176,7 +178,7 @@ impl Caller {
 
     /// An index that the sheet has no item for is refused by 12.
     fn ask_missing(&mut self, item: usize) {
-        let answer = snow::load(&self.sheet, item, 1, 0);
+        let answer = snow::load(&EMPTY_STORE, &self.sheet, item, 1, 0);
         println!("INDEX {item}: {}", answer.with_unit("N/m2"));
         self.check_refused(item, Answer::refused(12, item));
     }
@@ -206,13 +208,75 @@ impl Caller {
         }
     }
 
+    /// Adds a set. A refusal alters nothing, an answer the count and the set's place alone.
+    fn add_set(&mut self, store: &mut [u32; STORE_NUMBERS], set: &[u32]) -> Answer {
+        let mut after = *store;
+        let answer = snow::add_set(store, set);
+        println!(
+            "SET of {} numbers from day {}: {}",
+            set.len(),
+            set[0],
+            answer.with_unit("sets")
+        );
+        if let Some(count) = answer.value() {
+            let place = 1 + FIELDS * after[0] as usize;
+            after[place..place + FIELDS].copy_from_slice(set);
+            after[0] += 1;
+            let is_next = count == after[0];
+            self.check(is_next, "the count of sets is another one", 0);
+        }
+        let kept = *store == after;
+        self.check(kept, "snow_add_set altered more than its set", 0);
+        answer
+    }
+
+    /// A country's annex by its first day, then a later one. Open jobs stay on the old one.
+    fn ask_sets(&mut self) {
+        let first = [9_000, 180, 80, 400, 5_000, 15_000];
+        let second = [9_500, 250, 100, 300, 4_000, 20_000, 0]; // the last number is one too many
+        let refused = |number| Answer::refused(number, 0);
+        let mut store = EMPTY_STORE;
+        let load = dated_load(&store, 9_132);
+        self.check(load == refused(19), "a job without a set", 0);
+        let count = self.add_set(&mut store, &first);
+        self.check(count == Answer::Value(1), "the first set", 0);
+        let load = dated_load(&store, 8_999);
+        self.check(load == refused(19), "a job before the first set", 0);
+        let load = dated_load(&store, 9_132);
+        self.check(load == Answer::Value(1_800), "a job of the first set", 0);
+        let count = self.add_set(&mut store, &second[..FIELDS - 1]);
+        self.check(count == refused(18), "a set of five numbers is added", 0);
+        let count = self.add_set(&mut store, &second);
+        self.check(count == refused(18), "a set of seven numbers is added", 0);
+        let count = self.add_set(&mut store, &second[..FIELDS]);
+        self.check(count == Answer::Value(2), "the second set", 0);
+        let count = self.add_set(&mut store, &first);
+        self.check(count == refused(18), "a set that isn't later is added", 0);
+        self.ask_jobs(&store);
+    }
+
+    /// Jobs before and from the second set's first day, and a store that is too short.
+    fn ask_jobs(&mut self, store: &[u32]) {
+        let load = dated_load(store, 9_132);
+        self.check(load == Answer::Value(1_800), "an open job changes", 0);
+        let load = dated_load(store, 9_499);
+        let is_old = load == Answer::Value(1_800);
+        self.check(is_old, "the last day of the first set", 0);
+        let load = dated_load(store, 9_500);
+        let is_new = load == Answer::Value(2_200);
+        self.check(is_new, "the first day of the second set", 0);
+        let load = dated_load(&store[..STORE_NUMBERS - 1], 9_500);
+        let is_refused = load == Answer::refused(18, 0);
+        self.check(is_refused, "a store of 192 numbers", 0);
+    }
+
     /// Prints the listing; the count of its lines. One byte of room too little alters nothing.
     fn list(&mut self) -> io::Result<usize> {
         let mut text = vec![MARK_BYTE; snow::LIST_ROOM];
-        let bytes = snow::list(&self.sheet, &mut text[..snow::LIST_ROOM - 1]);
+        let bytes = snow::list(&EMPTY_STORE, &self.sheet, &mut text[..snow::LIST_ROOM - 1]);
         let kept = text.iter().all(|&byte| byte == MARK_BYTE);
         self.check(bytes == 0 && kept, "a listing in too little room", 0);
-        let bytes = snow::list(&self.sheet, &mut text);
+        let bytes = snow::list(&EMPTY_STORE, &self.sheet, &mut text);
         io::stdout().write_all(&text[..bytes])?;
         Ok(text[..bytes].iter().filter(|&&byte| byte == b'\n').count())
     }
@@ -220,7 +284,7 @@ impl Caller {
     /// What the quote desk answers: the terminal's verdict, or 1 where the sheet has more than 8
     /// items or 2,048 bytes.
     fn ask_desk(&mut self, verdict: Answer) {
-        let answer = snow::desk_verdict(&self.sheet);
+        let answer = snow::desk_verdict(&EMPTY_STORE, &self.sheet);
         println!("DESK: {}", answer.with_unit("items"));
         let items = self
             .sheet
@@ -237,7 +301,7 @@ impl Caller {
 
     fn ask(&mut self) -> io::Result<()> {
         let mut lines = 1; // the header, or the line REFUSED
-        let verdict = snow::verdict(&self.sheet);
+        let verdict = snow::verdict(&EMPTY_STORE, &self.sheet);
         println!("VERDICT: {}", verdict.with_unit("items"));
         self.ask_desk(verdict);
         if let Some(count) = verdict.value() {
@@ -255,9 +319,27 @@ impl Caller {
         let listed = self.list()?;
         self.check(listed == lines, "the listing has other lines", 0);
         self.ask_map();
+        self.ask_sets();
         println!("CHECKS: {}", self.checks);
         Ok(())
     }
+}
+
+/// A dated job: an arch of 4,000 on 20,000 under 1,000 N/m². μ3 is 2.2 before the upper value of the
+/// set in use limits it, and the load at the right peak is 1,000 times μ3.
+fn dated_load(store: &[u32], day: u16) -> Answer {
+    let head = [2, 0, 10, 0, 16, 0, 26, 0, 9, 0];
+    let site = [1, 0xE8, 3, 0, 0, 100, 0, 100, 0, 200, 0, 0, 0xF4, 1];
+    let arch = [5, 0xA0, 0x0F, 0, 0, 0x20, 0x4E, 0, 0];
+    let sheet = [&head[..], &site, &day.to_le_bytes(), &arch].concat();
+    let answer = snow::load(store, &sheet, 1, 2, 60_000);
+    println!(
+        "JOB of day {day}, {} sets in {} numbers: {}",
+        store[0],
+        store.len(),
+        answer.with_unit("N/m2")
+    );
+    answer
 }
 
 fn main() -> io::Result<ExitCode> {

@@ -1,3 +1,4 @@
+use Rattle.item_answers.proofs.Slices.{shape-accepted}
 use mathlib.Core.Path.{ap, _∙_}
 use Rattle.answer_codes.specs.Codes.{forceCode}
 use borrow.Author.Needs.{needs}
@@ -7,8 +8,8 @@ use Rattle.item_answers.proofs.guard_force_at.Tie as tie
 enum-told : tie.Need-enum-told
 enum-told c = search needs
 
-guard-force-requires : tie.Need-guard-force-requires
-guard-force-requires c κs = search needs
+guard-force-at-requires : tie.Need-guard-force-at-requires
+guard-force-at-requires c κs = shape-accepted _ (c .before .enum-told .given .1) (c .before .before .before .pre)
 
 force-requires : tie.Need-force-requires
 force-requires c κs = search needs
@@ -24,8 +25,8 @@ refusal-requires c κs = search needs
 
 returns : tie.Need-returns
 returns c =
-    let item = c .before .before .before .before .args .item in
-    rw (c .before .before .enum-told .given .1) (c .force .ensures ∙ ap (forceCode item) (c .before .guard-force .ensures .0))
+    let item = c .before .before .before .before .before .args .item in
+    rw (c .before .before .before .enum-told .given .1) (c .force .ensures ∙ ap (forceCode item) (c .before .guard-force-at .ensures))
 
 returns-2 : tie.Need-returns-2
 returns-2 c = search needs
@@ -38,7 +39,7 @@ guard-force-at-spec =
     tie.close
     (tie.spec
     enum-told
-    guard-force-requires
+    guard-force-at-requires
     force-requires
     enum-told-2
     enum-known-finding

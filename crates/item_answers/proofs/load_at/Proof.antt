@@ -1,3 +1,4 @@
+use Rattle.item_answers.proofs.Slices.{figures-in}
 use mathlib.Core.Path.{ap, _∙_}
 use Rattle.answer_codes.specs.Codes.{answerCode}
 use borrow.Author.Needs.{needs}
@@ -7,8 +8,8 @@ use Rattle.item_answers.proofs.load_at.Tie as tie
 enum-told : tie.Need-enum-told
 enum-told c = search needs
 
-load-at-requires : tie.Need-load-at-requires
-load-at-requires c κs = search needs
+load-in-requires : tie.Need-load-in-requires
+load-in-requires c κs = figures-in _ (c .enum-told .given .1) (c .before .before .pre)
 
 load-requires : tie.Need-load-requires
 load-requires c κs = search needs
@@ -28,7 +29,7 @@ refusal-requires-2 c κs = search needs
 returns : tie.Need-returns
 returns c =
     let item = c .before .before .before .before .args .item in
-    rw (c .before .before .enum-told .given .1) (c .load .ensures ∙ ap (answerCode item) (c .before .load-at .ensures .0))
+    rw (c .before .before .enum-told .given .1) (c .load .ensures ∙ ap (answerCode item) (c .before .load-in .ensures))
 
 returns-2 : tie.Need-returns-2
 returns-2 c = rw (c .before .enum-told2 .given .1) (c .refusal .ensures)
@@ -41,7 +42,7 @@ load-at-spec =
     tie.close
     (tie.spec
     enum-told
-    load-at-requires
+    load-in-requires
     load-requires
     enum-told-2
     refusal-requires

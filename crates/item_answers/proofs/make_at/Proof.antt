@@ -1,5 +1,5 @@
 use Rattle.standard.specs.Answers.{Answer}
-use Rattle.item_answers.proofs.Slices.{slice-means}
+use Rattle.item_answers.proofs.Slices.{slice-means, figures-in}
 use mathlib.Core.Path.{ap, _∙_}
 use Rattle.answer_codes.specs.Codes.{answerCode}
 use Rattle.item_answers.specs.Calls.{sliceBy}
@@ -10,8 +10,8 @@ use Rattle.item_answers.proofs.make_at.Tie as tie
 enum-told : tie.Need-enum-told
 enum-told c = search needs
 
-make-requires : tie.Need-make-requires
-make-requires c κs = search needs
+make-in-requires : tie.Need-make-in-requires
+make-in-requires c κs = figures-in _ (c .before .enum-told .given .1) (c .before .before .before .before .pre)
 
 made-requires : tie.Need-made-requires
 made-requires c κs = search needs
@@ -36,12 +36,12 @@ returns c =
     let k = c .before .before .before in
     let e = k .before .before .enum-told .given .1 in
     let a = k .before .before .before .before .before .args in
-    let m = k .make in (
+    let m = k .make-in in (
       rw e (c .made .ensures ∙ ap (answerCode (a .item)) (m .ensures .0)),
       rw e
           (m .ensures .1 .0
-          ∙ (slice-means (m .result) (a .found .site) (a .found .roof) (a .code) (a .out .now)
-          ∙ ap (λ (x : Answer). sliceBy x (a .found .site) (a .found .roof) (a .code) (a .out .now)) (m .ensures .0))),
+          ∙ (slice-means (m .result) (a .found .national) (a .found .site) (a .found .roof) (a .code) (a .out .now)
+          ∙ ap (λ (x : Answer). sliceBy x (a .found .national) (a .found .site) (a .found .roof) (a .code) (a .out .now)) (m .ensures .0))),
     )
 
 returns-2 : tie.Need-returns-2
@@ -55,7 +55,7 @@ make-at-spec =
     tie.close
     (tie.spec
     enum-told
-    make-requires
+    make-in-requires
     made-requires
     enum-told-2
     refusal-requires

@@ -1,3 +1,4 @@
+use denote.Ref.{now}
 use mathlib.Core.Path.{sym, ap, _∙_}
 use Rattle.item_forms.specs.declared.Item.{Item}
 use Rattle.item_rules.specs.Rules.{ruleNumber, ruleOf}
@@ -18,16 +19,18 @@ misplaced-number-requires c κs = search needs
 returns : tie.Need-returns
 returns c =
     let d = c .before .before .decode in
-    c .misplaced-number .ensures ∙ (first-misplaced (d .result .item) (d .result .spans) (c .before .match .keys2) .0 ∙ ap (ruleOf 0) (d .ensures))
+    let a = c .before .before .before .before .before .args in
+    c .misplaced-number .ensures ∙ (first-misplaced _ (d .result .item) (d .result .spans) (c .before .match .keys2) .0 ∙ ap (ruleOf (now (a .store)) 0) (d .ensures))
 
-site-data-refusal-requires : tie.Need-site-data-refusal-requires
-site-data-refusal-requires c κs = search needs
+job-refusal-requires : tie.Need-job-refusal-requires
+job-refusal-requires c κs = search needs
 
 returns-2 : tie.Need-returns-2
 returns-2 c =
     let d = c .before .before .before .before .decode in
-    c .site-data-refusal .ensures
-    ∙ (ap (λ (x : Item). ruleNumber 0 x (d .result .spans)) (sym (c .before .before .item .given .1)) ∙ ap (ruleOf 0) (d .ensures))
+    let a = c .before .before .before .before .before .before .before .args in
+    c .job-refusal .ensures
+    ∙ (ap (λ (x : Item). ruleNumber (now (a .store)) 0 x (d .result .spans)) (sym (c .before .before .item .given .1)) ∙ ap (ruleOf (now (a .store)) 0) (d .ensures))
 
 pub first-number-spec : {M : Type 1} → statement M
 first-number-spec =
@@ -37,5 +40,5 @@ first-number-spec =
     enum-known-item
     misplaced-number-requires
     returns
-    site-data-refusal-requires
+    job-refusal-requires
     returns-2)

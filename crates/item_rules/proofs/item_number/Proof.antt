@@ -17,9 +17,9 @@ later-number-requires c κs = search needs
 
 returns-2 : tie.Need-returns-2
 returns-2 c =
-    let a = c .before .before .before .args in
+    let a = c .before .before .before .before .args in
     let d = content (now (a .p)) in
-    c .later-number .ensures ∙ later (a .index) (d .item) (d .spans) (c .before .if1 .left)
+    c .later-number .ensures (now (a .store)) ∙ later (now (a .store)) (a .index) (d .item) (d .spans) (c .before .if1 .left)
 
 pub item-number-spec : {M : Type 1} → statement M
 item-number-spec =

@@ -26,11 +26,11 @@ lower-refusal-requires : tie.Need-lower-refusal-requires
 lower-refusal-requires c κs = search needs
 
 returns : tie.Need-returns
-returns c =
+returns c store =
     let l = c .before in
     let d = content (now (l .before .before .before .before .args .p)) in
     c .lower-refusal .ensures
-    ∙ ap (λ (x : Item). ruleNumber 1 x (d .spans)) (ap LowerItem (l .lower-at .ensures) ∙ lower-fields _ (lower (l .before)))
+    ∙ ap (λ (x : Item). ruleNumber store 1 x (d .spans)) (ap LowerItem (l .lower-at .ensures) ∙ lower-fields _ (lower (l .before)))
 
 decode-requires : tie.Need-decode-requires
 decode-requires c κs = search needs
@@ -42,23 +42,23 @@ misplaced-number-requires : tie.Need-misplaced-number-requires
 misplaced-number-requires c κs = search needs
 
 returns-2 : tie.Need-returns-2
-returns-2 c =
+returns-2 c store =
     let m = c .before in
     let d = m .before in
     let e = d .before in
     let other = ap (λ (x : Decoded). isLower (x .item)) (d .decode .ensures) ∙ (sym (e .before .is-lower .ensures) ∙ e .if1 .left) in
     c .misplaced-number .ensures
-    ∙ (later-misplaced (d .decode .result .item) (d .decode .result .spans) other (m .match .keys2) ∙ ap (ruleOf 1) (d .decode .ensures))
+    ∙ (later-misplaced store (d .decode .result .item) (d .decode .result .spans) other (m .match .keys2) ∙ ap (ruleOf store 1) (d .decode .ensures))
 
 shape-refusal-requires : tie.Need-shape-refusal-requires
 shape-refusal-requires c κs = search needs
 
 returns-3 : tie.Need-returns-3
-returns-3 c =
+returns-3 c store =
     let b = c .before .before .before .before in
     let d = b .before .before .decode in
     c .shape-refusal .ensures
-    ∙ (ap (λ (x : Item). ruleNumber 1 x (d .result .spans)) (sym (b .item .given .1)) ∙ ap (ruleOf 1) (d .ensures))
+    ∙ (ap (λ (x : Item). ruleNumber store 1 x (d .result .spans)) (sym (b .item .given .1)) ∙ ap (ruleOf store 1) (d .ensures))
 
 pub later-number-spec : {M : Type 1} → statement M
 later-number-spec =

@@ -12,17 +12,19 @@ use Rattle.listing.proofs.list.Tie as tie
 
 told-refused :
     (c : tie.After-number) → let n = c .number .given .0 in
-    refused (n .0) (n .1 .0) ≡ sheetVerdict terminals (c .before .before .before .before .before .before .args .sheet .now)
+    let a = c .before .before .before .before .before .before .before .args in
+    refused (n .0) (n .1 .0) ≡ sheetVerdict (a .store .now) terminals (a .sheet .now)
 told-refused c = sym (ap verdictMeans (c .number .given .1)) ∙ c .before .before .verdict .ensures
 
 told-accepted :
-    (c : tie.After-n) → accepted (c .n .given .0 .0) ≡ sheetVerdict terminals (c .before .before .before .before .before .before .args .sheet .now)
+    (c : tie.After-n) → let a = c .before .before .before .before .before .before .before .args in
+    accepted (c .n .given .0 .0) ≡ sheetVerdict (a .store .now) terminals (a .sheet .now)
 told-accepted c = sym (ap verdictMeans (c .n .given .1)) ∙ c .before .before .verdict .ensures
 
 returns : tie.Need-returns
 returns c =
-    let a = c .before .before .before .args in
-    let e = too-small (a .sheet .now) (a .out .now) (omega arith) in
+    let a = c .before .before .before .before .args in
+    let e = too-small (a .store .now) (a .sheet .now) (a .out .now) (omega arith) in
     (e .0, (e .1, (omega arith, tt)))
 
 verdict-requires : tie.Need-verdict-requires
@@ -37,7 +39,7 @@ cast-put-refused c = search needs
 cast-put-refused-2 : tie.Need-cast-put-refused-2
 cast-put-refused-2 c =
     let n = c .before .before in
-    record { fits = omega (arith, sheet-named terminals _ _ _ (sym (told-refused n))) }
+    record { fits = omega (arith, sheet-named _ terminals _ _ _ (sym (told-refused n))) }
 
 put-refused-requires : tie.Need-put-refused-requires
 put-refused-requires c κs = search needs
@@ -57,8 +59,8 @@ returns-2 c =
     let l = c .before .before in
     let n = l .before .before .before in
     let e = n .before .before .before in
-    let a = e .before .before .before .args in
-    let w = all-written (a .sheet .now) (a .out .now) _ _ _ (told-refused n) (omega arith) (l .put-refused .ensures) in
+    let a = e .before .before .before .before .args in
+    let w = all-written (a .store .now) (a .sheet .now) (a .out .now) _ _ _ (told-refused n) (omega arith) (l .put-refused .ensures) in
     (w .0, (w .1 .0, (w .1 .1, tt)))
 
 same-length-2 : tie.Need-same-length-2
@@ -70,8 +72,8 @@ returns-3 c =
     let l = c .before .before in
     let n = l .before .before .before .before in
     let e = n .before .before .before in
-    let a = e .before .before .before .args in
-    let w = all-written (a .sheet .now) (a .out .now) _ _ _ (told-accepted n) (omega arith) (l .list-accepted .ensures) in
+    let a = e .before .before .before .before .args in
+    let w = all-written (a .store .now) (a .sheet .now) (a .out .now) _ _ _ (told-accepted n) (omega arith) (l .list-accepted .ensures) in
     (w .0, (w .1 .0, (w .1 .1, tt)))
 
 pub list-spec : {M : Type 1} → statement M

@@ -29,11 +29,17 @@ add-u16-at-3 c = search needs
 u16-at-requires-4 : tie.Need-u16-at-requires-4
 u16-at-requires-4 c κs = search needs
 
+add-day-at : tie.Need-add-day-at
+add-day-at c = search needs
+
+day-at-requires : tie.Need-day-at-requires
+day-at-requires c κs = search needs
+
 returns : tie.Need-returns
 returns c =
-    let b = c .before .before in
+    let b = c .before .before .before in
     let a = b .before .before in
-    rw (a .u16-at .ensures, b .before .u16-at2 .ensures, b .u16-at3 .ensures, c .u16-at4 .ensures)
+    rw (a .u16-at .ensures, b .before .u16-at2 .ensures, b .u16-at3 .ensures, c .before .u16-at4 .ensures, c .day-at .ensures)
 
 pub site-data-at-spec : {M : Type 1} → statement M
 site-data-at-spec =
@@ -48,4 +54,6 @@ site-data-at-spec =
     shared-slice-read-t11
     add-u16-at-3
     u16-at-requires-4
+    add-day-at
+    day-at-requires
     returns)

@@ -20,14 +20,17 @@ returns c = search needs
 text-room-requires : tie.Need-text-room-requires
 text-room-requires c κs = search needs
 
-array-share-prefix-sheet : tie.Need-array-share-prefix-sheet
-array-share-prefix-sheet c = search needs
-
 slice-aggregate-list : tie.Need-slice-aggregate-list
 slice-aggregate-list c = search needs
 
+array-share-prefix-sheet : tie.Need-array-share-prefix-sheet
+array-share-prefix-sheet c = search needs
+
 slice-aggregate-list-2 : tie.Need-slice-aggregate-list-2
 slice-aggregate-list-2 c = search needs
+
+slice-aggregate-list-3 : tie.Need-slice-aggregate-list-3
+slice-aggregate-list-3 c = search needs
 
 list-requires : tie.Need-list-requires
 list-requires c κs = search needs
@@ -62,9 +65,10 @@ main-spec =
     input-ended-requires
     returns
     text-room-requires
-    array-share-prefix-sheet
     slice-aggregate-list
+    array-share-prefix-sheet
     slice-aggregate-list-2
+    slice-aggregate-list-3
     list-requires
     array-share-prefix-text
     slice-aggregate-write-all

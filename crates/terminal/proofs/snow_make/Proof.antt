@@ -6,7 +6,7 @@ find-requires : tie.Need-find-requires
 find-requires c κs = search needs
 
 make-at-requires : tie.Need-make-at-requires
-make-at-requires c κs = search needs
+make-at-requires c κs = c .before .find .ensures .1
 
 same-length : tie.Need-same-length
 same-length c = search needs
@@ -14,7 +14,7 @@ same-length c = search needs
 returns : tie.Need-returns
 returns c =
     let m = c .before .before in
-    let e = m .before .before .find .ensures in
+    let e = m .before .before .find .ensures .0 in
     (rw e at (m .make-at .ensures .0), rw e at (m .make-at .ensures .1))
 
 pub snow-make-spec : {M : Type 1} → statement M

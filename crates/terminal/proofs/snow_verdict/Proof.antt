@@ -10,7 +10,7 @@ verdict-requires : tie.Need-verdict-requires
 verdict-requires c κs = search needs
 
 verdict-requires-2 : tie.Need-verdict-requires-2
-verdict-requires-2 c κs = let few = few-counted _ _ (c .verdict .result) (c .verdict .ensures) in omega (arith, few)
+verdict-requires-2 c κs = let few = few-counted _ _ _ (c .verdict .result) (c .verdict .ensures) in omega (arith, few)
 
 returns : tie.Need-returns
 returns c = c .verdict2 .ensures ∙ ap verdictCode (c .before .verdict .ensures)

@@ -5,10 +5,10 @@ use Rattle.second.proofs.station.load_read.Statement.{statement}
 use Rattle.second.proofs.station.load_read.Tie as tie
 
 abbrev Inv-loop : tie.InvT-loop
-Inv-loop ground roof code station parts count load₀ i₀ load i = i ≤ count
+Inv-loop national ground roof code station parts count load₀ i₀ load i = i ≤ count
 
 abbrev μ-loop : tie.MeasureT-loop
-μ-loop ground roof code station parts count load₀ i₀ load i = count - i
+μ-loop national ground roof code station parts count load₀ i₀ load i = count - i
 
 segment-count-requires : tie.Need-segment-count-requires Inv-loop μ-loop
 segment-count-requires c κs = search needs

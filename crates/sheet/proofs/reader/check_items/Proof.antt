@@ -10,15 +10,15 @@ use Rattle.sheet.proofs.reader.check_items.Statement.{statement}
 use Rattle.sheet.proofs.reader.check_items.Tie as tie
 
 abbrev Inv-loop : tie.InvT-loop
-Inv-loop s n i₀ i = (i ≤ n) × (inTurn (itemNumber s) n 0 n ≡ inTurn (itemNumber s) n i (n - i))
+Inv-loop store s n i₀ i = (i ≤ n) × (inTurn (itemNumber store s) n 0 n ≡ inTurn (itemNumber store s) n i (n - i))
 
 abbrev μ-loop : tie.MeasureT-loop
-μ-loop s n i₀ i = n - i
+μ-loop store s n i₀ i = n - i
 
 -- what was asked of the part is what is asked of the item
 numbered :
-    (c : tie.After-item-number Inv-loop μ-loop)
-    → itemNumber (now (c .before .before .before .before .before .args .s)) (c .before .before .before .loop .i) ≡ c .item-number .result
+    (c : tie.After-item-number Inv-loop μ-loop) → let a = c .before .before .before .before .before .before .args in
+    itemNumber (now (a .store)) (now (a .s)) (c .before .before .before .loop .i) ≡ c .item-number .result
 unfolding itemNumber
 numbered c = rw (c .item-number .ensures, c .before .part-at .ensures)
 
@@ -26,7 +26,7 @@ loop-holds : tie.Need-loop-holds Inv-loop μ-loop
 loop-holds c = (omega arith, turn-start _ _ _)
 
 part-at-requires : tie.Need-part-at-requires Inv-loop μ-loop
-part-at-requires c κs = c .before .before .before .pre _ (c .loop-test .taken)
+part-at-requires c κs = c .before .before .before .before .pre .1 _ (c .loop-test .taken)
 
 item-number-requires : tie.Need-item-number-requires Inv-loop μ-loop
 item-number-requires c κs = search needs

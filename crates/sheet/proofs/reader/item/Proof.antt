@@ -13,16 +13,15 @@ use Rattle.sheet.proofs.reader.item.Statement.{statement}
 use Rattle.sheet.proofs.reader.item.Tie as tie
 
 found :
-    (c : tie.After-known-told)
-    → place (ceilingOf (c .before .before .before .before .before .args .caller)) (now (c .before .before .before .before .before .args .s))
-    (c .before .before .before .before .before .args .index)
+    (c : tie.After-known-told) → let a = c .before .before .before .before .before .before .args in
+    place (now (a .store)) (ceilingOf (a .caller)) (now (a .s)) (a .index)
     ≡ accepted (record { start = c .before .offset .given .0 .0; bytes = c .before .offset .given .0 .1 .0 })
 found c = sym (c .before .before .before .locate .ensures) ∙ ap locatedMeans (c .before .offset .given .1)
 
 within :
     (c : tie.After-known-told)
-    → c .before .offset .given .0 .0 + c .before .offset .given .0 .1 .0 ≤ length (now (c .before .before .before .before .before .args .s))
-within c = located _ _ _ _ (found c) .within
+    → c .before .offset .given .0 .0 + c .before .offset .given .0 .1 .0 ≤ length (now (c .before .before .before .before .before .before .args .s))
+within c = located _ _ _ _ _ (found c) .within
 
 locate-requires : tie.Need-locate-requires
 locate-requires c κs = search needs
@@ -54,7 +53,7 @@ returns c = simp (found (c .before), add-sub-cancel-left)
 returns-2 : tie.Need-returns-2
 returns-2 c =
     let b = c .before in
-    ap (λ (p : Answer Place). partAt p (now (b .before .before .before .before .args .s)))
+    ap (λ (p : Answer Place). partAt p (now (b .before .before .before .before .before .args .s)))
     (sym (ap locatedMeans (b .enum-told .given .1)) ∙ b .before .before .locate .ensures)
 
 pub item-spec : {M : Type 1} → statement M

@@ -10,15 +10,14 @@ use Rattle.sheet.proofs.reader.locate.Statement.{statement}
 use Rattle.sheet.proofs.reader.locate.Tie as tie
 
 said :
-    (c : tie.After-known-told2)
-    → sheetVerdict (ceilingOf (c .before .before .before .before .before .args .caller)) (now (c .before .before .before .before .before .args .s))
-    ≡ accepted (c .before .n .given .0 .0)
+    (c : tie.After-known-told2) → let a = c .before .before .before .before .before .before .args in
+    sheetVerdict (now (a .store)) (ceilingOf (a .caller)) (now (a .s)) ≡ accepted (c .before .n .given .0 .0)
 said c = sym (c .before .before .before .verdict .ensures) ∙ ap verdictMeans (c .before .n .given .1)
 
 here :
-    (c : tie.Else1)
-    → ItemIn (now (c .before .before .before .before .before .before .args .s)) (c .before .before .before .before .before .before .args .index)
-here c = item-in _ _ _ (said (c .before)) _ (omega arith)
+    (c : tie.Else1) → let a = c .before .before .before .before .before .before .before .args in
+    ItemIn (now (a .s)) (a .index)
+here c = item-in _ _ _ _ (said (c .before)) _ (omega arith)
 
 verdict-requires : tie.Need-verdict-requires
 verdict-requires c κs = search needs
@@ -30,22 +29,22 @@ enum-known-n : tie.Need-enum-known-n
 enum-known-n c = search needs
 
 returns : tie.Need-returns
-returns c = place-none _ _ _ _ (said (c .before)) (omega arith)
+returns c = place-none _ _ _ _ _ (said (c .before)) (omega arith)
 
 pair-at-requires : tie.Need-pair-at-requires
 pair-at-requires c κs = omega (arith, here c .part .pair)
 
-cast-t11 : tie.Need-cast-t11
-cast-t11 c = search needs
-
 cast-t12 : tie.Need-cast-t12
 cast-t12 c = search needs
 
+cast-t13 : tie.Need-cast-t13
+cast-t13 c = search needs
+
 returns-2 : tie.Need-returns-2
-returns-2 c = place-refused _ _ _ _ _ (sym (c .before .before .before .verdict .ensures) ∙ ap verdictMeans (c .before .number .given .1))
+returns-2 c = place-refused _ _ _ _ _ _ (sym (c .before .before .before .verdict .ensures) ∙ ap verdictMeans (c .before .number .given .1))
 
 returns-3 : tie.Need-returns-3
-returns-3 c = place-found _ _ _ _ _ _ (said (c .before .before .before .before)) (omega arith) (omega arith) (omega arith)
+returns-3 c = place-found _ _ _ _ _ _ _ (said (c .before .before .before .before)) (omega arith) (omega arith) (omega arith)
 
 pub locate-spec : {M : Type 1} → statement M
 locate-spec =
@@ -56,7 +55,7 @@ locate-spec =
     enum-known-n
     returns
     pair-at-requires
-    cast-t11
     cast-t12
+    cast-t13
     returns-2
     returns-3)

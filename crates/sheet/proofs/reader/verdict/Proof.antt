@@ -1,56 +1,22 @@
-use Rattle.sheet.proofs.Kept.{sheet-refused, sheet-items}
-use Rattle.ceilings.specs.Ceilings.{ceilingOf}
-use Rattle.ceilings.proofs.Limits.{below-terminals}
-use Rattle.pairs.specs.Pairs.{accepted, pairsVerdict, verdictMeans}
-use Rattle.pairs.proofs.Kept.{pairs-kept, parts-in}
-use denote.Ref.{now}
-use native.Mathlib.Omega.{arith}
-use mathlib.Core.Path.{_≡_, sym, ap, _∙_}
+use mathlib.Core.Path.{sym, _∙_}
+use Rattle.sheet.proofs.Kept.{store-refused, store-accepted}
 use borrow.Author.Needs.{needs}
 use Rattle.sheet.proofs.reader.verdict.Statement.{statement}
 use Rattle.sheet.proofs.reader.verdict.Tie as tie
 
-ceiling-of-requires : tie.Need-ceiling-of-requires
-ceiling-of-requires c κs = search needs
-
-read-pairs-requires : tie.Need-read-pairs-requires
-read-pairs-requires c κs = search needs
-
-enum-known-number : tie.Need-enum-known-number
-enum-known-number c = search needs
-
-enum-known-n : tie.Need-enum-known-n
-enum-known-n c = search needs
-
--- the pairs are accepted, and few
-read : (c : tie.After-known-told2) → let a = c .before .before .before .before .before .before .args in
-    pairsVerdict (ceilingOf (a .caller)) (now (a .s)) ≡ accepted (c .before .n .given .0 .0)
-read c =
-    let r = c .before .before .before in
-    rw (r .before .ceiling-of .ensures) at (sym (r .read-pairs .ensures) ∙ ap verdictMeans (c .before .n .given .1))
-
-items-verdict-requires : tie.Need-items-verdict-requires
-items-verdict-requires c κs =
-    let k = pairs-kept _ _ _ (read c) in
-    (parts-in k, k .fit .some, omega (arith, k .fit .items, below-terminals (c .before .before .before .before .before .before .args .caller) .items))
+store-refusal-requires : tie.Need-store-refusal-requires
+store-refusal-requires c κs = search needs
 
 returns : tie.Need-returns
-returns c =
-    let r = c .before .before .before in
-    let e = sheet-refused _ _ _ _ (sym (r .read-pairs .ensures) ∙ ap verdictMeans (c .before .number .given .1)) in
-    rw (r .before .ceiling-of .ensures) at e
+returns c = store-refused _ _ _ _ (c .before .store-refusal .ensures) (c .if1 .taken)
+
+rules-verdict-requires : tie.Need-rules-verdict-requires
+rules-verdict-requires c κs = sym (c .before .store-refusal .ensures) ∙ c .if1 .left
 
 returns-2 : tie.Need-returns-2
-returns-2 c = c .items-verdict .ensures ∙ sheet-items _ _ _ (read (c .before))
+returns-2 c =
+    let s = c .before in
+    c .rules-verdict .ensures ∙ store-accepted _ _ _ (sym (s .before .store-refusal .ensures) ∙ s .if1 .left)
 
 pub verdict-spec : {M : Type 1} → statement M
-verdict-spec =
-    tie.close
-    (tie.spec
-    ceiling-of-requires
-    read-pairs-requires
-    enum-known-number
-    enum-known-n
-    items-verdict-requires
-    returns
-    returns-2)
+verdict-spec = tie.close (tie.spec store-refusal-requires returns rules-verdict-requires returns-2)

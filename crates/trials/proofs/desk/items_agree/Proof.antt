@@ -5,10 +5,10 @@ use Rattle.trials.proofs.desk.items_agree.Statement.{statement}
 use Rattle.trials.proofs.desk.items_agree.Tie as tie
 
 abbrev Inv-loop : tie.InvT-loop
-Inv-loop sheet inside i₀ i = i ≤ 34
+Inv-loop store sheet inside i₀ i = i ≤ 34
 
 abbrev μ-loop : tie.MeasureT-loop
-μ-loop sheet inside i₀ i = 34 - i
+μ-loop store sheet inside i₀ i = 34 - i
 
 loop-holds : tie.Need-loop-holds Inv-loop μ-loop
 loop-holds c = search needs

@@ -13,14 +13,14 @@ use Rattle.trials.proofs.listed.agrees.Tie as tie
 
 -- the bytes at the front of the room are the listing, and no others
 front :
-    (sheet old new : List ℕ) (n : ℕ)
-    → listRoom ≤ length old → n ≡ listed sheet (length old) → new ≡ bytesAfter sheet old → take n new ≡ listing sheet
+    (store sheet old new : List ℕ) (n : ℕ)
+    → listRoom ≤ length old → n ≡ listed store sheet (length old) → new ≡ bytesAfter store sheet old → take n new ≡ listing store sheet
 unfolding listed bytesAfter
-front sheet old new n h e b =
+front store sheet old new n h e b =
     let t = le-ltb (length old) listRoom h in
-    let k : n ≡ length (listing sheet) = e ∙ rw t in
-    let w : new ≡ listing sheet ++ drop (length (listing sheet)) old = b ∙ rw t in
-    ap (λ (m : ℕ). take m new) k ∙ ap (take (length (listing sheet))) w ∙ take-append-seam (listing sheet) (drop (length (listing sheet)) old)
+    let k : n ≡ length (listing store sheet) = e ∙ rw t in
+    let w : new ≡ listing store sheet ++ drop (length (listing store sheet)) old = b ∙ rw t in
+    ap (λ (m : ℕ). take m new) k ∙ ap (take (length (listing store sheet))) w ∙ take-append-seam (listing store sheet) (drop (length (listing store sheet)) old)
 
 list-requires : tie.Need-list-requires
 list-requires c κs = search needs
@@ -40,8 +40,8 @@ same-length c = search needs
 returns : tie.Need-returns
 returns c =
     let l = c .before .before .before .before .list in
-    let s = c .before .before .before .before .before .before .before .before .before .before in
-    let f = front (now (s .args .sheet)) (now (s .args .room)) _ _ (s .pre) (l .ensures .0) (l .ensures .1 .0) in
+    let s = c .before .before .before .before .before .before .before .before .before .before .before in
+    let f = front (now (s .args .store)) (now (s .args .sheet)) (now (s .args .room)) _ _ (s .pre) (l .ensures .0) (l .ensures .1 .0) in
     (λ e. sym f ∙ c .same .ensures .0 e, λ e. c .same .ensures .1 (f ∙ e))
 
 pub agrees-spec : {M : Type 1} → statement M

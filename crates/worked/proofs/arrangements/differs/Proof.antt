@@ -5,10 +5,10 @@ use Rattle.worked.proofs.arrangements.differs.Statement.{statement}
 use Rattle.worked.proofs.arrangements.differs.Tie as tie
 
 abbrev Inv-loop : tie.InvT-loop
-Inv-loop site roof code answer out i₀ i = i ≤ 128
+Inv-loop job roof code answer out i₀ i = i ≤ 128
 
 abbrev μ-loop : tie.MeasureT-loop
-μ-loop site roof code answer out i₀ i = 128 - i
+μ-loop job roof code answer out i₀ i = 128 - i
 
 loop-holds : tie.Need-loop-holds Inv-loop μ-loop
 loop-holds c = search needs

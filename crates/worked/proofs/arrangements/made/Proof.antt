@@ -9,7 +9,7 @@ array-borrow-prefix-out : tie.Need-array-borrow-prefix-out
 array-borrow-prefix-out c = search needs
 
 slice-aggregate-make : tie.Need-slice-aggregate-make
-slice-aggregate-make c = sym (length-take-le _ _ (c .before .pre))
+slice-aggregate-make c = sym (length-take-le _ _ (c .before .before .before .pre))
 
 make-requires : tie.Need-make-requires
 make-requires c κs = search needs

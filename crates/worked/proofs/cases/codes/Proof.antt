@@ -5,10 +5,10 @@ use Rattle.worked.proofs.cases.codes.Statement.{statement}
 use Rattle.worked.proofs.cases.codes.Tie as tie
 
 abbrev Inv-loop : tie.InvT-loop
-Inv-loop tally₀ site roof i₀ tally i = i ≤ 30
+Inv-loop tally₀ store job roof site i₀ tally i = i ≤ 30
 
 abbrev μ-loop : tie.MeasureT-loop
-μ-loop tally₀ site roof i₀ tally i = 30 - i
+μ-loop tally₀ store job roof site i₀ tally i = 30 - i
 
 loop-holds : tie.Need-loop-holds Inv-loop μ-loop
 loop-holds c = search needs

@@ -6,10 +6,10 @@ use Rattle.worked.proofs.cases.sites.Statement.{statement}
 use Rattle.worked.proofs.cases.sites.Tie as tie
 
 abbrev Inv-loop : tie.InvT-loop
-Inv-loop tally₀ text roof at₀ tally at = at ≤ length text
+Inv-loop tally₀ store day text roof at₀ tally at = at ≤ length text
 
 abbrev μ-loop : tie.MeasureT-loop
-μ-loop tally₀ text roof at₀ tally at = length text - at
+μ-loop tally₀ store day text roof at₀ tally at = length text - at
 
 loop-holds : tie.Need-loop-holds Inv-loop μ-loop
 loop-holds c = search needs
@@ -20,8 +20,8 @@ word-of-requires c κs = search needs
 site-of-requires : tie.Need-site-of-requires Inv-loop μ-loop
 site-of-requires c κs = search needs
 
-codes-requires : tie.Need-codes-requires Inv-loop μ-loop
-codes-requires c κs = search needs
+one-site-requires : tie.Need-one-site-requires Inv-loop μ-loop
+one-site-requires c κs = search needs
 
 behind-requires : tie.Need-behind-requires Inv-loop μ-loop
 behind-requires c κs = search needs
@@ -44,7 +44,7 @@ sites-spec =
     loop-holds
     word-of-requires
     site-of-requires
-    codes-requires
+    one-site-requires
     behind-requires
     loop-less
     loop-again

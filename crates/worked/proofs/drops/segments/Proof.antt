@@ -5,10 +5,10 @@ use Rattle.worked.proofs.drops.segments.Statement.{statement}
 use Rattle.worked.proofs.drops.segments.Tie as tie
 
 abbrev Inv-loop : tie.InvT-loop
-Inv-loop drops₀ site roof code n out i₀ drops i = i ≤ 2 * n
+Inv-loop drops₀ store job roof code n out i₀ drops i = i ≤ 2 * n
 
 abbrev μ-loop : tie.MeasureT-loop
-μ-loop drops₀ site roof code n out i₀ drops i = 2 * n - i
+μ-loop drops₀ store job roof code n out i₀ drops i = 2 * n - i
 
 numbers-requires : tie.Need-numbers-requires Inv-loop μ-loop
 numbers-requires c κs = search needs

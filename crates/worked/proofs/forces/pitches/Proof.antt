@@ -5,10 +5,10 @@ use Rattle.worked.proofs.forces.pitches.Statement.{statement}
 use Rattle.worked.proofs.forces.pitches.Tie as tie
 
 abbrev Inv-loop : tie.InvT-loop
-Inv-loop count₀ site first width pitch₀ count pitch = 0 ≤ pitch
+Inv-loop count₀ store site first width pitch₀ count pitch = 0 ≤ pitch
 
 abbrev μ-loop : tie.MeasureT-loop
-μ-loop count₀ site first width pitch₀ count pitch = 801 - pitch
+μ-loop count₀ store site first width pitch₀ count pitch = 801 - pitch
 
 loop-holds : tie.Need-loop-holds Inv-loop μ-loop
 loop-holds c = search needs

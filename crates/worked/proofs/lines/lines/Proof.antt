@@ -6,10 +6,13 @@ use Rattle.worked.proofs.lines.lines.Statement.{statement}
 use Rattle.worked.proofs.lines.lines.Tie as tie
 
 abbrev Inv-loop : tie.InvT-loop
-Inv-loop tally₀ text at₀ tally at = at ≤ length text
+Inv-loop tally₀ text store at₀ tally at = at ≤ length text
 
 abbrev μ-loop : tie.MeasureT-loop
-μ-loop tally₀ text at₀ tally at = length text - at
+μ-loop tally₀ text store at₀ tally at = length text - at
+
+store-of-requires : tie.Need-store-of-requires Inv-loop μ-loop
+store-of-requires c κs = search needs
 
 loop-holds : tie.Need-loop-holds Inv-loop μ-loop
 loop-holds c = search needs
@@ -35,6 +38,7 @@ lines-spec =
     (tie.spec
     Inv-loop
     μ-loop
+    store-of-requires
     loop-holds
     line-requires
     behind-requires

@@ -5,10 +5,10 @@ use Rattle.worked.proofs.readings.stations.Statement.{statement}
 use Rattle.worked.proofs.readings.stations.Tie as tie
 
 abbrev Inv-loop : tie.InvT-loop
-Inv-loop count₀ site roof code n i₀ count i = i ≤ 6 * n
+Inv-loop count₀ store job roof code n sk i₀ count i = i ≤ 6 * n
 
 abbrev μ-loop : tie.MeasureT-loop
-μ-loop count₀ site roof code n i₀ count i = 6 * n - i
+μ-loop count₀ store job roof code n sk i₀ count i = 6 * n - i
 
 loop-holds : tie.Need-loop-holds Inv-loop μ-loop
 loop-holds c = search needs

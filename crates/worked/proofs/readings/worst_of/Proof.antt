@@ -5,10 +5,10 @@ use Rattle.worked.proofs.readings.worst_of.Statement.{statement}
 use Rattle.worked.proofs.readings.worst_of.Tie as tie
 
 abbrev Inv-loop : tie.InvT-loop
-Inv-loop ground roof code station load worst further₀ further = 0 ≤ further
+Inv-loop national ground roof code station load worst further₀ further = 0 ≤ further
 
 abbrev μ-loop : tie.MeasureT-loop
-μ-loop ground roof code station load worst further₀ further = 1200 - further
+μ-loop national ground roof code station load worst further₀ further = 1200 - further
 
 loop-holds : tie.Need-loop-holds Inv-loop μ-loop
 loop-holds c = search needs

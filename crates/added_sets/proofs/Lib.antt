@@ -1,0 +1,4 @@
+pub mod Figures
+pub mod Judged
+pub mod Runs
+pub mod Unchanged

@@ -1,0 +1,2 @@
+pub mod Sheets
+pub mod Unchanged
