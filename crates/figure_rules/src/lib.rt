@@ -16,7 +16,9 @@ fn dated_refusal(store: &[u32], site: Site) -> u8
     ensures { λ r. ⌜ r ≡ datedRefusal (now (store .entry)) site ⌝ }
 {
     let day = site.day;
-    first(site_refusal(site), day_refusal(store, day))
+    let own = site_refusal(site);
+    let dated = day_refusal(store, day);
+    first(own, dated)
 }
 
 // The number of the first rule that the store, the site or the roof breaks, 0 where they break none. The store is checked here, and
@@ -28,5 +30,7 @@ pub fn refusal(store: &[u32], site: Site, roof: Roof) -> u8
     if number != 0 {
         return number;
     }
-    first(dated_refusal(store, site), roof_refusal(roof))
+    let of_site = dated_refusal(store, site);
+    let of_roof = roof_refusal(roof);
+    first(of_site, of_roof)
 }

@@ -35,7 +35,9 @@ fn job_refusal(store: &[u32], fields: SiteData) -> u8
     ensures { λ r. ⌜ r ≡ jobRefusal (now (store .entry)) fields ⌝ }
 {
     let day = fields.day;
-    first(site_data_refusal(fields), day_refusal(store, day))
+    let own = site_data_refusal(fields);
+    let dated = day_refusal(store, day);
+    first(own, dated)
 }
 
 // The first rule that the first item breaks.

@@ -15,6 +15,10 @@ pub sets-more :
 unfolding setsSound
 sets-more run i a b p q = rw (add-one i, p, q)
 
+-- and the day after its first day is the earliest of the next
+pub next-earliest : (run : ℕ → NationalSet) (i e : ℕ) (s : NationalSet) → s ≡ run i → e ≡ s .day + 1 → e ≡ earliestDay run (i + 1)
+next-earliest run i e s f g = rw (add-one i, ← f) g
+
 module _ (store : List ℕ) where
   pub not-193 : (length store ≡ 193 → ⊥) → 18 ≡ storeRefusal store
   unfolding storeRefusal

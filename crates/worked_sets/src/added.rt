@@ -2,6 +2,7 @@
 ghost use Prim.Native.Nat.{_≤_, _<_};
 use super::calls::load;
 use super::calls::site_on;
+use super::rule::altered;
 use super::rule::set_number;
 use super::rule::store_of;
 use super::stores::NUMBERS;
@@ -39,11 +40,10 @@ fn differs(store: &[u32; STORE_NUMBERS], expected: &[u32; STORE_NUMBERS]) -> boo
     false
 }
 
-// A set for the store with so many sets.
-fn one_set(count: Sets, sets: u32, set: &[u32]) -> Sets {
+// A set for a store.
+fn one_set(count: Sets, before: [u32; STORE_NUMBERS], set: &[u32]) -> Sets {
     let mut c = count;
-    let mut store = store_of(sets);
-    let before = store;
+    let mut store = before;
     let refused = second_sets::set_refused(&before, set);
     let with = second_sets::with_set(&before, set);
     let answer = count_of(add_set(&mut store, set));
@@ -87,7 +87,7 @@ fn fields(mut count: Sets, sets: u32) -> Sets
         let field = i / NUMBERS;
         let number = number_for(i % NUMBERS, sets + 1, first + field);
         let set = altered_set(sets, field, number);
-        count = one_set(count, sets, &set);
+        count = one_set(count, store_of(sets), &set);
         i += 1;
     }
     count
@@ -95,12 +95,49 @@ fn fields(mut count: Sets, sets: u32) -> Sets
 
 // Sets for the store with two sets, of 0, 5, 6 and 7 numbers.
 fn lengths(count: Sets) -> Sets {
+    let store = store_of(2);
     let set = [2_000, 300, 50, 600, 2_000, 20_000, 1];
-    let short = one_set(one_set(count, 2, &set[..0]), 2, &set[..5]);
-    one_set(one_set(short, 2, &set[..6]), 2, &set)
+    let short = one_set(one_set(count, store, &set[..0]), store, &set[..5]);
+    one_set(one_set(short, store, &set[..6]), store, &set)
 }
 
-// Every store.
+// A set for every store that has one number of the first two sets altered, or its count.
+fn altered_stores(mut count: Sets) -> Sets {
+    let set = set_of(2);
+    let mut i = 0;
+    while i < 13 * NUMBERS {
+        let place = i / NUMBERS;
+        let store = altered(2, place, number_for(i % NUMBERS, 2, place));
+        count = one_set(count, store, &set);
+        i += 1;
+    }
+    count
+}
+
+// A set for a store of other than 193 numbers, of which there are up to 194: refused, and all are as they were.
+fn other_length(count: Sets, length: usize) -> Sets
+    requires { ⌜ length ≤ 194 ⌝ }
+{
+    let mut c = count;
+    let mut store = [0; 194];
+    let answer = count_of(add_set(&mut store[..length], &set_of(0)));
+    c.refused = compared(count.refused, (answer != 0) | any(&store));
+    c
+}
+
+// Whether any number is not 0.
+fn any(numbers: &[u32; 194]) -> bool {
+    let mut i = 0;
+    while i < 194 {
+        if numbers[i] != 0 {
+            return true;
+        }
+        i += 1;
+    }
+    false
+}
+
+// Sets for the stores of every count.
 fn each_store(mut count: Sets) -> Sets {
     let mut sets = 0;
     while sets <= 32 {
@@ -146,5 +183,6 @@ pub fn sets_added() -> Sets {
         refused: 0,
     };
     none.added = one_by_one(0);
-    each_store(lengths(none))
+    let stores = other_length(other_length(other_length(none, 0), 192), 194);
+    each_store(altered_stores(lengths(stores)))
 }

@@ -1,8 +1,7 @@
 use Rattle.figures.specs.Store.{setAt, setsSound, earliestDay}
-use Rattle.national_sets.proofs.Judged.{sets-more}
+use Rattle.national_sets.proofs.Judged.{sets-more, next-earliest}
 use Prim.Native.Nat.{_≤_, _-_}
 use mathlib.Core.Path.{_≡_, refl}
-use native.Mathlib.Numerals.{add-one}
 use borrow.Author.Needs.{needs}
 use native.Mathlib.Omega.{arith}
 use Rattle.national_sets.proofs.sets_sound.Statement.{statement}
@@ -39,10 +38,11 @@ loop-less c = search needs
 loop-again : tie.Need-loop-again Inv-loop μ-loop
 loop-again c =
     let l = c .before .before .before .before .loop in
+    let store = c .before .before .before .before .before .before .args .store .now in
     let set = c .before .before .set-at .ensures in (
       omega arith,
       sets-more _ _ _ _ (l .inv .1) (rw (← l .inv .2, ← set) (c .before .set-sound .ensures)),
-      rw (add-one (l .i), c .to-u64 .ensures .0, set),
+      next-earliest (setAt store) (l .i) _ (c .before .before .set-at .result) set (omega (arith, c .to-u64 .ensures .0)),
     )
 
 returns : tie.Need-returns Inv-loop μ-loop

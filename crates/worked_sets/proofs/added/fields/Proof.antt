@@ -34,6 +34,9 @@ number-for-requires c κs = search needs
 altered-set-requires : tie.Need-altered-set-requires Inv-loop μ-loop
 altered-set-requires c κs = search needs
 
+store-of-requires : tie.Need-store-of-requires Inv-loop μ-loop
+store-of-requires c κs = search needs
+
 slice-aggregate-one-set : tie.Need-slice-aggregate-one-set Inv-loop μ-loop
 slice-aggregate-one-set c = search needs
 
@@ -66,6 +69,7 @@ fields-spec =
     add-number-for-2
     number-for-requires
     altered-set-requires
+    store-of-requires
     slice-aggregate-one-set
     one-set-requires
     add-i
