@@ -3,7 +3,6 @@ ghost use mathlib.Core.Path.{_≡_};
 ghost use Prim.Native.Nat.{_≤_, min};
 ghost use Rattle.arrangement.specs.Arrangement.{madeMeans, madeCount};
 ghost use Rattle.local_forces.specs.Answers.{forceMeans};
-ghost use Rattle.map_sites.specs.Sites.{groundAnswer};
 ghost use Rattle.pairs.specs.Pairs.{verdictMeans, verdictCount};
 ghost use Rattle.reading.specs.Reading.{readingMeans};
 ghost use Rattle.answer_codes.specs.Codes.{refusalCode, verdictCode, answerCode, groundCode, forceCode, addedCode};
@@ -11,7 +10,6 @@ use added_sets::Added;
 use arrangement::Made;
 use local_forces::LocalForce;
 use map_sites::GroundLoad;
-use map_sites::ground_load;
 use national_sets::STORE;
 use pairs::Verdict;
 use reading::Reading;
@@ -77,20 +75,13 @@ pub fn load(answer: Reading, item: usize) -> u32
 }
 
 // A ground load, or a refusal, which names no item.
-fn ground(answer: GroundLoad) -> u32
+pub fn ground(answer: GroundLoad) -> u32
     ensures { λ r. ⌜ r ≡ groundCode answer ⌝ }
 {
     match answer {
         GroundLoad::Load(load) => load,
         GroundLoad::Refused(number) => refusal(number, 0),
     }
-}
-
-// The ground load of a region, a zone and an altitude by the map, or its refusal.
-pub fn ground_at(region: u8, zone: u8, altitude: u16) -> u32
-    ensures { λ r. ⌜ r ≡ groundCode (groundAnswer region zone altitude) ⌝ }
-{
-    ground(ground_load(region, zone, altitude))
 }
 
 // A count of sets, or the refusal of an added set, which names no item.

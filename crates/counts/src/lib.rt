@@ -3,6 +3,18 @@
 // One answer that differs.
 pub const DIFFERENT: u64 = 4_294_967_296;
 
+// Stores of national sets accepted, and stores refused.
+pub struct Stores {
+    pub accepted: u64,
+    pub refused: u64,
+}
+
+// National sets added, and sets refused.
+pub struct Sets {
+    pub added: u64,
+    pub refused: u64,
+}
+
 // More by some, of which there are less than 100.
 pub fn more(count: u64, n: usize) -> u64 {
     if count < 9_000_000_000_000_000_000 {

@@ -13,7 +13,8 @@ use Rattle.figures.specs.Ranges.{within}
 use Rattle.figures.specs.Refusals.{figuresRefusal}
 use Rattle.figures.specs.RoofRules.{roofRefusal}
 use Rattle.figures.specs.SiteRules.{siteRefusal}
-use Rattle.figures.specs.Store.{setCount, setAt, earliestDay, setSound, setsSound, storeFits, storeRefusal, InUse, noneBegun, inUse, lastBegun, setInUse, begunNumber, dayRefusal, begunFigures, figuresInUse}
+use Rattle.figures.specs.Store.{setCount, setAt, earliestDay, setSound, setsSound, storeFits, storeRefusal}
+use Rattle.figures.specs.Store.{InUse, noneBegun, inUse, lastBegun, setInUse, begunNumber, dayRefusal, begunFigures, figuresInUse}
 use Rattle.figures.specs.declared.national.National.{National}
 use Rattle.figures.specs.declared.national.NationalSet.{NationalSet}
 use Rattle.figures.specs.declared.site.JobDay.{JobDay}

@@ -6,7 +6,8 @@ use borrow.Author.Tests.{lt-ltb, le-ltb}
 use lib.ListN.{length, drop, length-append}
 use native.Mathlib.Nat.{zero-add}
 use native.Mathlib.Omega.{arith}
-use Rattle.listing.specs.Listing.{header, listingBy, listing, listRoom, listed, bytesAfter}
+use Rattle.plain_rows.specs.Words.{header}
+use Rattle.listing.specs.Listing.{listingBy, listing, listRoom, listed, bytesAfter}
 use Rattle.ceilings.specs.Ceilings.{terminals}
 use Rattle.pairs.specs.Pairs.{Answer, accepted, refused}
 use Rattle.sheet.specs.Sheet.{sheetVerdict}

@@ -77,8 +77,10 @@ mapText =
     49 ∷ 32 ∷ 50 ∷ 50 ∷ 32 ∷ 49 ∷ 32 ∷ 51 ∷ 56 ∷ 48 ∷ 56 ∷ 10 ∷ []
 
 pub example : (listing empty sheet ≡ text) × (listing empty mapSheet ≡ mapText)
-unfolding listing listingBy roofsRows itemRows order firstRoofs added nextRoof ready lowest listed upper roofRows arrangementRows codesRows codeRows segmentRows forceRows slopeRows sheetSite sheetNational sheetRoof
-    sheetVerdict storeVerdict storeRefusal setsSound rulesVerdict uppersVerdict upperNumber circleNumber comesBack meets pairsVerdict inTurn pairNumber itemNumber content byKind siteItem mapSiteItem siteSized dayAt monopitchItem sized
+unfolding listing listingBy roofsRows itemRows order firstRoofs added nextRoof ready lowest listed upper
+    roofRows arrangementRows codesRows codeRows segmentRows forceRows slopeRows sheetSite sheetNational sheetRoof
+    sheetVerdict storeVerdict storeRefusal setsSound rulesVerdict uppersVerdict upperNumber circleNumber comesBack meets pairsVerdict inTurn pairNumber
+    itemNumber content byKind siteItem mapSiteItem siteSized dayAt monopitchItem sized
     jobRefusal dayRefusal figuresInUse setInUse siteDataRefusal mapRefusal groundLoad expression zoneLoad rowOf rows siteRefusal shapeRefusal firstOf
     exists existsIn count countIn stretch stretchIn factorOf monopitch
     mu1 guarded segment startOf readIn load reading breakLoad roundedUp ceilDiv larger

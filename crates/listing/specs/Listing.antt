@@ -1,26 +1,16 @@
 -- The listing of a sheet, as the list of its bytes.
 use Prim.Native.Nat.{ℕ, _-_}
 use mathlib.Core.Bool.{cond}
-use mathlib.Core.List.{List, [], _∷_, _++_}
+use mathlib.Core.List.{List, _++_}
 use lib.Dec.{ltb}
 use lib.ListN.{length, drop}
 use Rattle.ceilings.specs.Ceilings.{terminals}
 use Rattle.pairs.specs.Pairs.{Answer, accepted, refused}
+use Rattle.plain_rows.specs.Words.{header, refusedRow}
 use Rattle.sheet.specs.Sheet.{sheetVerdict}
 use Rattle.sheet_figures.specs.Find.{sheetNational}
 use Rattle.sheet_rows.specs.SheetRows.{roofsRows}
-use Rattle.text.specs.Text.{row}
 use Rattle.upper_items.specs.Uppers.{roofOrder}
-
--- "ITEM ARR START END LOAD LOAD" and a line feed
-abbrev pub header : List ℕ
-header =
-    73 ∷ 84 ∷ 69 ∷ 77 ∷ 32 ∷ 65 ∷ 82 ∷ 82 ∷ 32 ∷ 83 ∷ 84 ∷ 65 ∷ 82 ∷ 84 ∷ 32 ∷
-    69 ∷ 78 ∷ 68 ∷ 32 ∷ 76 ∷ 79 ∷ 65 ∷ 68 ∷ 32 ∷ 76 ∷ 79 ∷ 65 ∷ 68 ∷ 10 ∷ []
-
--- "REFUSED, number, item"
-abbrev pub refusedRow : ℕ → ℕ → List ℕ
-refusedRow number item = (82 ∷ 69 ∷ 70 ∷ 85 ∷ 83 ∷ 69 ∷ 68 ∷ 32 ∷ []) ++ row (number ∷ item ∷ [])
 
 -- the header, then the roofs in their order, document 02, A7; "A refused sheet gives one line only"
 unfoldable pub listingBy : List ℕ → Answer ℕ → List ℕ → List ℕ

@@ -1,6 +1,4 @@
 // The listing of a sheet: its text, written into bytes that the caller lends.
-mod rows;
-
 ghost use mathlib.Core.Path.{_≡_};
 ghost use Prim.Native.Nat.{_≤_};
 ghost use lib.ListN.{length};
@@ -9,6 +7,8 @@ ghost use Rattle.ceilings.specs.Ceilings.{terminals};
 ghost use Rattle.pairs.specs.Pairs.{accepted};
 ghost use Rattle.sheet.specs.Sheet.{sheetVerdict};
 ghost use Rattle.text.specs.Text.{Wrote};
+use plain_rows::put_header;
+use plain_rows::put_refused;
 use sheet::Caller;
 use sheet::Verdict;
 use sheet::verdict;
@@ -29,7 +29,7 @@ fn list_accepted(
     requires { ⌜ (sheetVerdict (now store) terminals (now sheet) ≡ accepted n) × (listRoom ≤ length (now out)) ⌝ }
     ensures { λ r. ⌜ Wrote (now (out .entry)) 0 (listingBy (now (store .entry)) (accepted n) (now (sheet .entry))) (now (out .exit)) r ⌝ }
 {
-    let a = rows::put_header(out);
+    let a = put_header(out);
     list_roofs(store, sheet, n, numbers, out, a)
 }
 
@@ -46,7 +46,7 @@ pub fn list(store: &[u32], sheet: &[u8], numbers: &mut [u32; NUMBERS], out: &mut
         return 0;
     }
     match verdict(store, sheet, Caller::Terminal) {
-        Verdict::Refused(number, item) => rows::put_refused(out, number as u32, item as u32),
+        Verdict::Refused(number, item) => put_refused(out, number as u32, item as u32),
         Verdict::Accepted(n) => list_accepted(store, sheet, n, numbers, out),
     }
 }

@@ -1,8 +1,12 @@
-// Rows of segments, number after number.
+// Rows of segments, number after number, and the two lines of words.
+mod words;
+
 ghost use Prim.Native.Nat.{_+_, _*_, _≤_};
 ghost use lib.ListN.{length};
 ghost use Rattle.text.specs.Text.{Wrote};
 ghost use Rattle.plain_rows.specs.Rows.{sliceRow, sliceRows};
+pub use words::put_header;
+pub use words::put_refused;
 
 // Writes the row of the segment at an index of the numbers, four numbers a segment.
 pub fn put_row(numbers: &[u32], i: usize, item: u32, code: u32, out: &mut [u8], at: usize) -> usize

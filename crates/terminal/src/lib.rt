@@ -12,11 +12,11 @@ ghost use Rattle.answer_codes.specs.Codes.{verdictCode, groundCode, addedCode};
 ghost use Rattle.map_sites.specs.Sites.{groundAnswer};
 ghost use Rattle.item_answers.specs.Calls.{makeCode, sliceAfter, loadCode, overhangCode, guardCode};
 use added_sets::add_set;
-use answer_codes::ground_at;
 use item_answers::guard_force_at;
 use item_answers::load_at;
 use item_answers::make_at;
 use item_answers::overhang_at;
+use map_sites::ground_load;
 use sheet::Caller;
 use sheet::verdict;
 use sheet_figures::find;
@@ -93,7 +93,7 @@ pub extern "C" fn snow_list(store: &[u32], sheet: &[u8], out: &mut [u8]) -> usiz
 pub extern "C" fn snow_ground_load(region: u8, zone: u8, altitude: u16) -> u32
     ensures { λ r. ⌜ r ≡ groundCode (groundAnswer region zone altitude) ⌝ }
 {
-    ground_at(region, zone, altitude)
+    answer_codes::ground(ground_load(region, zone, altitude))
 }
 
 // The count of a store's sets with one more, given by its six numbers; or a refusal, which alters nothing.

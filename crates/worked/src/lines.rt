@@ -1,13 +1,6 @@
 // What a line asks for.
 ghost use Prim.Native.Nat.{_≤_, _<_};
 ghost use lib.ListN.{length};
-use super::cases::JOBS;
-use super::cases::SITES;
-use super::forces::newtons;
-use super::jobs::SET;
-use super::jobs::job_of;
-use super::jobs::store_of;
-use super::tally::Tally;
 use counts::compared;
 use figures::JobDay;
 use figures::Roof;
@@ -22,6 +15,13 @@ use stored_lines::number;
 use stored_lines::roof_of;
 use stored_lines::site_of;
 use stored_lines::word_of;
+use worked_roofs::JOBS;
+use worked_roofs::SET;
+use worked_roofs::SITES;
+use worked_roofs::Tally;
+use worked_roofs::job_of;
+use worked_roofs::newtons;
+use worked_roofs::store_of;
 
 const COMPARE: u64 = 0x636f6d70617265;
 
@@ -57,8 +57,8 @@ fn readable(word: u64, text: &[u8], at: usize) -> bool {
 // The answer to a word: a number of the maker's slice, the load at a station, a force at a slope.
 fn answer(word: u64, store: &[u32], site: Site, roof: Roof, code: u8, asked: u32) -> u32 {
     match word {
-        NUMBER => super::arrangements::number_at(store, site, roof, code, asked),
-        LOAD => super::readings::load(store, site, roof, code, asked),
+        NUMBER => worked_roofs::number_at(store, site, roof, code, asked),
+        LOAD => worked_roofs::load(store, site, roof, code, asked),
         OVERHANG => newtons(local_forces::overhang(store, site, roof, byte(asked))),
         _ => newtons(local_forces::guard_force(store, site, roof, byte(asked))),
     }
@@ -74,7 +74,7 @@ fn case(tally: Tally, store: &[u32], day: JobDay, word: u64, text: &[u8], at: us
     let roof = roof_of(text, at, 10);
     match word {
         OUTSIDE => {
-            t.refusals = super::refusals::outside(
+            t.refusals = worked_roofs::outside(
                 tally.refusals,
                 store,
                 job_of(store, site),
@@ -85,7 +85,7 @@ fn case(tally: Tally, store: &[u32], day: JobDay, word: u64, text: &[u8], at: us
             )
         }
         REFUSAL => {
-            t.figures = super::refusals::both(
+            t.figures = worked_roofs::both(
                 tally.figures,
                 store,
                 job_of(store, site),
@@ -113,7 +113,7 @@ fn run(
     match word {
         SITES | SET | JOBS => {}
         PITCHES => {
-            t.forces = super::forces::pitches(
+            t.forces = worked_roofs::pitches(
                 tally.forces,
                 &store,
                 site_of(text, at, 3, day),
@@ -121,7 +121,7 @@ fn run(
                 number(text, at, 2, 0),
             )
         }
-        COMPARE => t = super::cases::jobs(tally, store, text, roof_of(text, at, 1)),
+        COMPARE => t = worked_roofs::every_job(tally, store, text, roof_of(text, at, 1)),
         _ => t = case(tally, &store, day, word, text, at),
     }
     t

@@ -1,19 +1,11 @@
 // Reads stored cases: figures of documents 01 and 02, figures outside their ranges, and many roofs. Runs each through the
 // maker, the reader and the local forces, asks for the ground load of every place on the map, tries stores of national sets, holds
 // every answer to the stored figure or to a second calculation, and writes what it counted.
-mod arrangements;
-mod cases;
-mod drops;
-mod forces;
 mod ground;
-mod jobs;
 mod lines;
-mod readings;
-mod refusals;
 mod report;
-mod tally;
 
-use tally::Tally;
+use worked_roofs::Tally;
 
 // The lines of an open file. What lies past the room for it is not read, which is said and shows in the counts.
 fn read(tally: Tally, fd: i32) -> Tally {
@@ -41,7 +33,7 @@ fn file(tally: Tally, i: usize) -> Tally {
 }
 
 fn main() {
-    let document = file(tally::nothing(), 1);
+    let document = file(worked_roofs::nothing(), 1);
     let refusals = file(document, 2);
     let cases = file(refusals, 3);
     let mut tally = file(cases, 4);

@@ -1,7 +1,7 @@
 // The counts as text.
-use super::tally::Tally;
 use counts::DIFFERENT;
 use stored_lines::behind;
+use worked_roofs::Tally;
 
 fn counts_of(t: Tally) -> [u64; 39] {
     let made = t.drops;

@@ -9,16 +9,11 @@ use super::stores::NUMBERS;
 use super::stores::number_for;
 use added_sets::Added;
 use added_sets::add_set;
+use counts::Sets;
 use counts::compared;
 use figures::JobDay;
 use second_numbers::difference;
 use second_sets::STORE_NUMBERS;
-
-// Sets added and sets refused.
-pub struct Sets {
-    pub added: u64,
-    pub refused: u64,
-}
 
 // The new count, 0 for a refusal.
 fn count_of(added: Added) -> u32 {

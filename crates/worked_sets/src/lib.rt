@@ -6,8 +6,6 @@ mod days;
 mod rule;
 mod stores;
 
-pub use added::Sets;
 pub use added::sets_added;
 pub use days::sets_on_days;
-pub use stores::Stores;
 pub use stores::every_store;

@@ -8,17 +8,12 @@ use super::calls::lower_roof;
 use super::calls::site_on;
 use super::rule::altered;
 use super::rule::store_number;
+use counts::Stores;
 use counts::compared;
 use figures::JobDay;
 use second_numbers::difference;
 use second_numbers::sum;
 use second_sets::STORE_NUMBERS;
-
-// Stores accepted and stores refused.
-pub struct Stores {
-    pub accepted: u64,
-    pub refused: u64,
-}
 
 // The load at the wall that a job of the last day has in an accepted store, or 19.
 fn expected(store: &[u32]) -> u32 {

@@ -22,7 +22,9 @@ judged : (c : tie.After-set-sound) → _≡_ {A = ℕ} (cond (c .set-sound .resu
 judged c =
     let n = c .before .before .before in
     let s = n .before .before .before in
-    by-set (now (entry c .args .store)) (now (entry c .args .numbers)) (s .before .before .if1 .left) _ (s .before .store-refusal .ensures) (s .if2 .left) _ (n .before .to-usize .ensures) (n .if3 .left)
+    let a = entry c .args in
+    by-set (now (a .store)) (now (a .numbers)) (s .before .before .if1 .left) _ (s .before .store-refusal .ensures) (s .if2 .left) _
+    (n .before .to-usize .ensures) (n .if3 .left)
     (c .set-sound .result) (rw (← c .before .next-day .ensures, ← c .before .before .set-from .ensures) (c .set-sound .ensures))
 
 returns : tie.Need-returns

@@ -32,7 +32,8 @@ read c =
 items-verdict-requires : tie.Need-items-verdict-requires
 items-verdict-requires c κs =
     let k = pairs-kept _ _ _ (read c) in
-    (c .before .before .before .before .before .before .before .pre, parts-in k, k .fit .some, omega (arith, k .fit .items, below-terminals (c .before .before .before .before .before .before .before .args .caller) .items))
+    let e = c .before .before .before .before .before .before .before in
+    (e .pre, parts-in k, k .fit .some, omega (arith, k .fit .items, below-terminals (e .args .caller) .items))
 
 returns : tie.Need-returns
 returns c =
