@@ -1,18 +1,18 @@
 // Answers as numbers of 32 bits.
 ghost use mathlib.Core.Path.{_≡_};
 ghost use Prim.Native.Nat.{_≤_, min};
-ghost use Rattle.arrangement.specs.Arrangement.{madeMeans, madeCount};
+ghost use Rattle.roof_arrangements.specs.Arrangement.{madeMeans, madeCount};
 ghost use Rattle.local_forces.specs.Answers.{forceMeans};
 ghost use Rattle.pairs.specs.Pairs.{verdictMeans, verdictCount};
-ghost use Rattle.reading.specs.Reading.{readingMeans};
+ghost use Rattle.roof_readings.specs.Reading.{readingMeans};
 ghost use Rattle.answer_codes.specs.Codes.{refusalCode, verdictCode, answerCode, groundCode, forceCode, addedCode};
 use added_sets::Added;
-use arrangement::Made;
 use local_forces::LocalForce;
 use map_sites::GroundLoad;
 use national_sets::STORE;
 use pairs::Verdict;
-use reading::Reading;
+use roof_arrangements::Made;
+use roof_readings::Reading;
 
 // The answer where there is no such force.
 pub const NONE: u32 = 0xFFFF_FFFF;

@@ -2,9 +2,9 @@
 use Prim.Native.Nat.{ℕ}
 use mathlib.Core.List.{List}
 use mathlib.Core.Path.{_≡_, refl, subst}
-use Rattle.arrangement.specs.Arrangement.{madeMeans, contents}
-use Rattle.arrangement.specs.declared.Made.{Made}
-use Rattle.arrangement.specs.declared.Made.the-variants.{Segments, Refused}
+use Rattle.roof_arrangements.specs.Arrangement.{madeMeans, contents}
+use Rattle.roof_arrangements.specs.declared.Made.{Made}
+use Rattle.roof_arrangements.specs.declared.Made.the-variants.{Segments, Refused}
 use Rattle.figures.specs.declared.site.Site.{Site}
 use Rattle.figures.specs.declared.roof.Roof.{Roof}
 use Rattle.figures.specs.declared.national.National.{National}

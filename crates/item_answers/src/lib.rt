@@ -6,9 +6,9 @@ ghost use Rattle.sheet_figures.specs.Find.{FoundAccepted};
 ghost use Rattle.item_answers.specs.Calls.{makeCode, sliceAfter, loadCode, overhangCode, guardCode};
 use answer_codes::NONE;
 use answer_codes::refusal;
-use arrangement::make_in;
 use code_rules::NO_ARRANGEMENT;
-use reading::load_in;
+use roof_arrangements::make_in;
+use roof_readings::load_in;
 use sheet_figures::Finding;
 use sheet_figures::Found;
 

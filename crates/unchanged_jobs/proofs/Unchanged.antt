@@ -5,7 +5,7 @@ use mathlib.Core.Path.{ap}
 use Rattle.added_sets.proofs.Unchanged.{unchanged-before}
 use Rattle.added_sets.specs.Adding.{storeAfter, JobBefore}
 use Rattle.answer_codes.specs.Codes.{verdictCode}
-use Rattle.arrangement.specs.Arrangement.{contents}
+use Rattle.roof_arrangements.specs.Arrangement.{contents}
 use Rattle.ceilings.specs.Ceilings.{ceilingOf}
 use Rattle.figures.specs.Store.{setFrom, SameFor}
 use Rattle.figures.specs.declared.national.National.{National}

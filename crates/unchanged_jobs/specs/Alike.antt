@@ -3,8 +3,8 @@ use Prim.Native.Nat.{ℕ}
 use mathlib.Core.List.{List}
 use mathlib.Core.Path.{_≡_}
 use Rattle.answer_codes.specs.Codes.{verdictCode}
-use Rattle.arrangement.specs.Arrangement.{contents}
-use Rattle.arrangement.specs.declared.Made.{Made}
+use Rattle.roof_arrangements.specs.Arrangement.{contents}
+use Rattle.roof_arrangements.specs.declared.Made.{Made}
 use Rattle.ceilings.specs.Ceilings.{ceilingOf}
 use Rattle.ceilings.specs.declared.Caller.{Caller}
 use Rattle.figures.specs.declared.site.Site.{Site}

@@ -1,6 +1,6 @@
 use mathlib.Core.Path.{ap, sym, _∙_}
-use Rattle.reading.specs.Reading.{readingMeans}
-use Rattle.reading.specs.declared.Reading.{Reading}
+use Rattle.roof_readings.specs.Reading.{readingMeans}
+use Rattle.roof_readings.specs.declared.Reading.{Reading}
 use Rattle.answer_codes.specs.Codes.{answerCode}
 use borrow.Author.Needs.{needs}
 use Rattle.answer_codes.proofs.load.Statement.{statement}

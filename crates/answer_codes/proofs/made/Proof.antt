@@ -1,6 +1,6 @@
 use mathlib.Core.Path.{ap, sym, _∙_}
-use Rattle.arrangement.specs.Arrangement.{madeMeans, madeCount}
-use Rattle.arrangement.specs.declared.Made.{Made}
+use Rattle.roof_arrangements.specs.Arrangement.{madeMeans, madeCount}
+use Rattle.roof_arrangements.specs.declared.Made.{Made}
 use Rattle.answer_codes.specs.Codes.{answerCode}
 use borrow.Author.Needs.{needs}
 use native.Mathlib.Omega.{arith}

@@ -2,8 +2,8 @@ use denote.Ref.{now}
 use mathlib.Core.Path.{_≡_, sym, _∙_}
 use Rattle.figures.proofs.Stores.{accepted}
 use Rattle.figures.specs.Refusals.{figuresRefusal}
-use Rattle.reading.specs.Reading.{readingMeans}
-use Rattle.reading.proofs.Stations.{near-answer}
+use Rattle.roof_readings.specs.Reading.{readingMeans}
+use Rattle.roof_readings.proofs.Stations.{near-answer}
 use Rattle.standard.proofs.Answered.{figures-accepted, rules-refuse, rules-pass}
 use Rattle.standard.specs.Answers.{loadAnswer}
 use borrow.Author.Needs.{needs}

@@ -1,9 +1,9 @@
 use mathlib.Core.Path.{_∙_}
-use Rattle.reading.proofs.Stations.{value-before, value-past, value-held}
+use Rattle.roof_readings.proofs.Stations.{value-before, value-past, value-held}
 use native.Mathlib.Omega.{arith}
 use borrow.Author.Needs.{needs}
-use Rattle.reading.proofs.read.Statement.{statement}
-use Rattle.reading.proofs.read.Tie as tie
+use Rattle.roof_readings.proofs.read.Statement.{statement}
+use Rattle.roof_readings.proofs.read.Tie as tie
 
 returns : tie.Need-returns
 returns c = (value-before _ _ _ (c .if1 .taken), omega arith)

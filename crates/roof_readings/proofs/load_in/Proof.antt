@@ -4,8 +4,8 @@ use Rattle.standard.proofs.Answered.{code-refuses, code-passes}
 use Rattle.standard.specs.Answers.{loadIn}
 use Rattle.standard.specs.Arrangements.{exists}
 use borrow.Author.Needs.{needs}
-use Rattle.reading.proofs.load_in.Statement.{statement}
-use Rattle.reading.proofs.load_in.Tie as tie
+use Rattle.roof_readings.proofs.load_in.Statement.{statement}
+use Rattle.roof_readings.proofs.load_in.Tie as tie
 
 has-arrangement-requires : tie.Need-has-arrangement-requires
 has-arrangement-requires c κs = search needs

@@ -9,8 +9,8 @@ use Rattle.standard.specs.Arrangements.{stretch}
 use Rattle.standard.specs.Stretch.{segments}
 use Rattle.standard.specs.Units.{parts}
 use Rattle.figures.specs.declared.national.National.{National}
-use Rattle.arrangement.specs.declared.Made.{Made}
-use Rattle.arrangement.specs.declared.Made.the-variants.{Segments, Refused}
+use Rattle.roof_arrangements.specs.declared.Made.{Made}
+use Rattle.roof_arrangements.specs.declared.Made.the-variants.{Segments, Refused}
 
 -- the count of segments, or document 01's number
 abbrev pub madeMeans : Made → Answer

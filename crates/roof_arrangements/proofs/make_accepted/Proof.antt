@@ -1,9 +1,9 @@
 use mathlib.Core.Path.{refl}
-use Rattle.arrangement.proofs.Answering.{no-room, room-for}
+use Rattle.roof_arrangements.proofs.Answering.{no-room, room-for}
 use borrow.Author.Needs.{needs}
 use native.Mathlib.Omega.{arith}
-use Rattle.arrangement.proofs.make_accepted.Statement.{statement}
-use Rattle.arrangement.proofs.make_accepted.Tie as tie
+use Rattle.roof_arrangements.proofs.make_accepted.Statement.{statement}
+use Rattle.roof_arrangements.proofs.make_accepted.Tie as tie
 
 count-requires : tie.Need-count-requires
 count-requires c κs = search needs

@@ -15,9 +15,9 @@ use Rattle.standard.specs.Units.{parts}
 use Rattle.figures.specs.declared.national.National.{National}
 use Rattle.standard.proofs.Answered.{answers-near, answers-rise}
 use Rattle.standard.proofs.Demand.{Alike}
-use Rattle.reading.specs.Reading.{readingMeans, valueOf, distanceOf, InOrder}
-use Rattle.reading.specs.declared.Reading.{Reading}
-use Rattle.reading.specs.declared.Reading.the-variants.{Load, Refused}
+use Rattle.roof_readings.specs.Reading.{readingMeans, valueOf, distanceOf, InOrder}
+use Rattle.roof_readings.specs.declared.Reading.{Reading}
+use Rattle.roof_readings.specs.declared.Reading.the-variants.{Load, Refused}
 
 module _ (r : Ramp) (start p : ℕ) where
   pub value-before : p < start → 0 ≡ valueOf r start p

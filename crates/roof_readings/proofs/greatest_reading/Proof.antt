@@ -6,11 +6,11 @@ use Rattle.standard.specs.Stretch.{startOf, greatest}
 use Rattle.standard.specs.Arrangements.{stretch}
 use Rattle.figures.specs.RoofRules.{roofOf}
 use Rattle.segments.proofs.Starts.{next-start, start-most}
-use Rattle.reading.proofs.Stations.{one-more}
+use Rattle.roof_readings.proofs.Stations.{one-more}
 use native.Mathlib.Omega.{arith}
 use borrow.Author.Needs.{needs}
-use Rattle.reading.proofs.greatest_reading.Statement.{statement}
-use Rattle.reading.proofs.greatest_reading.Tie as tie
+use Rattle.roof_readings.proofs.greatest_reading.Statement.{statement}
+use Rattle.roof_readings.proofs.greatest_reading.Tie as tie
 
 abbrev Inv-loop : tie.InvT-loop
 Inv-loop national site shape spans code n station load₀ start₀ i₀ load start i = (i ≤ n)

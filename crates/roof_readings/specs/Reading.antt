@@ -9,8 +9,8 @@ use Rattle.ramps.specs.declared.Ramp.{Ramp}
 use Rattle.standard.specs.Answers.{Answer, value, refused}
 use Rattle.standard.specs.Arrangements.{exactAt, NearExact}
 use Rattle.standard.specs.Stretch.{holds}
-use Rattle.reading.specs.declared.Reading.{Reading}
-use Rattle.reading.specs.declared.Reading.the-variants.{Load, Refused}
+use Rattle.roof_readings.specs.declared.Reading.{Reading}
+use Rattle.roof_readings.specs.declared.Reading.the-variants.{Load, Refused}
 
 -- the load, or document 01's number
 abbrev pub readingMeans : Reading → Answer

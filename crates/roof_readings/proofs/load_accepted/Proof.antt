@@ -1,9 +1,9 @@
 use Rattle.figures.proofs.Accepted.{shape-in}
-use Rattle.reading.proofs.Stations.{off-roof, on-roof}
+use Rattle.roof_readings.proofs.Stations.{off-roof, on-roof}
 use borrow.Author.Needs.{needs}
 use native.Mathlib.Omega.{arith}
-use Rattle.reading.proofs.load_accepted.Statement.{statement}
-use Rattle.reading.proofs.load_accepted.Tie as tie
+use Rattle.roof_readings.proofs.load_accepted.Statement.{statement}
+use Rattle.roof_readings.proofs.load_accepted.Tie as tie
 
 end-requires : tie.Need-end-requires
 end-requires c κs = shape-in _ _ (c .before .before .pre .roof)

@@ -5,8 +5,8 @@ use Rattle.standard.specs.Answers.{makeIn}
 use Rattle.standard.specs.Arrangements.{exists}
 use borrow.Author.Needs.{needs}
 use native.Mathlib.Omega.{arith}
-use Rattle.arrangement.proofs.make_in.Statement.{statement}
-use Rattle.arrangement.proofs.make_in.Tie as tie
+use Rattle.roof_arrangements.proofs.make_in.Statement.{statement}
+use Rattle.roof_arrangements.proofs.make_in.Tie as tie
 
 has-arrangement-requires : tie.Need-has-arrangement-requires
 has-arrangement-requires c κs = search needs
