@@ -1,12 +1,12 @@
 // The factor on an arrangement's loads, and whether a roof has the arrangement.
 ghost use Rattle.std.specs.Prelude.{◌≡◌, ◌≤◌};
 ghost use Rattle.figures.specs.Bounds.{SiteIn};
-ghost use Rattle.figures.specs.RoofRules.{kind_of, drifts_of};
+ghost use Rattle.figures.specs.RoofRules.{kind_of, span_count};
 ghost use Rattle.standard.specs.Arrangements.{exceptional_of, factor_of};
 ghost use Rattle.standard.specs.Codes.{exists_in};
 
 use codes::{has_code, is_accidental};
-use figures::{Shape, Site, drifts_of, kind_of};
+use figures::{Shape, Site, kind_of, span_count};
 
 // The refusal of a code, by document 01's number.
 pub const NO_ARRANGEMENT: u8 = 13;
@@ -32,7 +32,7 @@ pub fn factor(site: Site, code: u8) -> u64
 
 // Whether a roof has the arrangement in the site's situation. Where it hasn't, the refusal is 13.
 pub fn has_arrangement(site: Site, shape: Shape, code: u8) -> bool
-    ensures { result ≡ exists_in (kind_of shape) site.situation (drifts_of shape) code }
+    ensures { result ≡ exists_in (kind_of shape) site.situation (span_count shape) code }
 {
-    has_code(kind_of(shape), site.situation, drifts_of(shape), code)
+    has_code(kind_of(shape), site.situation, span_count(shape), code)
 }

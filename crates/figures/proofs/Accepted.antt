@@ -8,17 +8,15 @@ use borrow.Author.Tests.{leb-true, ltb-false, not-false}
 use lib.Dec.{leb, ltb}
 use native.Mathlib.Nat.{eq-or-lt_of_le}
 use native.Mathlib.Omega.{arith}
-use Rattle.figures.specs.Bounds.{Within, SiteIn, SlopeIn, ProjectionIn, ObstructionIn, ShapeIn}
+use Rattle.figures.specs.Bounds.{Within, SiteIn, SlopeIn, ShapeIn}
 use Rattle.figures.specs.Ranges.{within}
 use Rattle.figures.specs.Rules.{refused_if}
 use Rattle.figures.specs.SiteRules.{ground_field, other_fields, site_fields, site_refusal}
-use Rattle.figures.specs.RoofRules.{drifts_of, slope_of, slope_fields, slopes_fields, span_fields, widest_upper, projection_refusal, obstruction_refusal, shape_refusal}
+use Rattle.figures.specs.RoofRules.{span_count, slope_of, slope_fields, slopes_fields, span_fields, widest_upper, shape_refusal}
 use Rattle.figures.specs.declared.site.Site.{Site}
 use Rattle.figures.specs.declared.roof.Slope.{Slope}
-use Rattle.figures.specs.declared.roof.Obstruction.{Obstruction}
-use Rattle.figures.specs.declared.roof.Obstruction.TheVariants.{Parapet, SmallProjection}
 use Rattle.figures.specs.declared.roof.Shape.{Shape}
-use Rattle.figures.specs.declared.roof.Shape.TheVariants.{Monopitch, Pitched, MultiSpan, Cylindrical, Abutting, Projection, Obstructed}
+use Rattle.figures.specs.declared.roof.Shape.TheVariants.{Monopitch, Pitched, MultiSpan, Cylindrical, Abutting, Projection}
 use Rattle.figures.proofs.Laws.{both, within_in, kept, none_broken}
 
 pub range : (low high x : ℕ) → within low high x ≡ true → Within low high x
@@ -71,30 +69,6 @@ widest false b1 h =
     let p = range 1 100000 b1 h in
     record { low = p.low; high = omega (arith, p.high) }
 
--- three fields of a rule
-three : (a b c : Bool) → refused_if (not (a && b && c)) 8 ≡ 0 → (a ≡ true) × (b ≡ true) × (c ≡ true)
-three a b c h =
-    let p = both (a && b) c (sound _ 8 (omega arith) h) in
-    let q = both a b p.0 in
-    (q.0, q.1, p.1)
-
-projection_in : (h left right : ℕ) → projection_refusal h left right ≡ 0 → ProjectionIn h left right
-projection_in h left right e =
-    let p = three (within 1 30000 h) (within 1 100000 left) (within 1 100000 right) e in
-    record { height = range 1 30000 h p.0; left = range 1 100000 left p.1; right = range 1 100000 right p.2 }
-
-obstruction_in : (by : Obstruction) → obstruction_refusal by ≡ 0 → ObstructionIn by
-obstruction_in (Parapet h b1 b2) e = projection_in h b1 b2 e
-obstruction_in (SmallProjection h1 h2 b1 b2) e =
-    let p = three (within 1 1000 h1 && within 1 1000 h2) (within 1 100000 b1) (within 1 100000 b2) e in
-    let q = both (within 1 1000 h1) (within 1 1000 h2) p.0 in
-    record {
-      left_height = range 1 1000 h1 q.0;
-      right_height = range 1 1000 h2 q.1;
-      left = range 1 100000 b1 p.1;
-      right = range 1 100000 b2 p.2;
-    }
-
 -- what the rules tell, kind by kind
 pub shape_in : (sh : Shape) (l : List ℕ) → shape_refusal sh l ≡ 0 → ShapeIn sh l
 unfolding shape_refusal
@@ -126,15 +100,16 @@ shape_in (Abutting b1 b2 h slope guard stepped) l e =
       slope = slope_in slope q.1;
       guard = leb-true guard 1 p.1;
     }
-shape_in (Projection h left right) l e = projection_in h left right e
-shape_in (Obstructed by) l e = obstruction_in by e
+shape_in (Projection h left right) l e =
+    let p = both (within 1 30000 h && within 1 100000 left) (within 1 100000 right) (sound _ 8 (omega arith) e) in
+    let q = both (within 1 30000 h) (within 1 100000 left) p.0 in
+    record { height = range 1 30000 h q.0; left = range 1 100000 left q.1; right = range 1 100000 right p.1 }
 
--- no roof has more than 15 drifts
-pub few_drifts : (sh : Shape) (l : List ℕ) → ShapeIn sh l → drifts_of sh ≤ 15
-few_drifts (Monopitch slope guard) l f = omega arith
-few_drifts (Pitched left right left_guard right_guard) l f = omega arith
-few_drifts (MultiSpan count drifts) l f = omega (arith, f.count.high)
-few_drifts (Cylindrical rise span) l f = omega arith
-few_drifts (Abutting b1 b2 h slope guard stepped) l f = omega arith
-few_drifts (Projection h left right) l f = omega arith
-few_drifts (Obstructed by) l f = omega arith
+-- no roof has more than 16 spans
+pub few_spans : (sh : Shape) (l : List ℕ) → ShapeIn sh l → span_count sh ≤ 16
+few_spans (Monopitch slope guard) l f = omega arith
+few_spans (Pitched left right left_guard right_guard) l f = omega arith
+few_spans (MultiSpan count drifts) l f = f.count.high
+few_spans (Cylindrical rise span) l f = omega arith
+few_spans (Abutting b1 b2 h slope guard stepped) l f = omega arith
+few_spans (Projection h left right) l f = omega arith

@@ -10,9 +10,8 @@ use Rattle.figures.specs.Ranges.{within}
 use Rattle.figures.specs.RoofRules.{kind_of, shape_refusal, roof_refusal}
 use Rattle.figures.specs.Slopes.{SlopeAt, no_slope, some_slope, slope_at, present}
 use Rattle.figures.specs.declared.roof.Slope.{Slope}
-use Rattle.figures.specs.declared.roof.Obstruction.TheVariants.{Parapet, SmallProjection}
 use Rattle.figures.specs.declared.roof.Shape.{Shape}
-use Rattle.figures.specs.declared.roof.Shape.TheVariants.{Monopitch, Pitched, MultiSpan, Cylindrical, Abutting, Projection, Obstructed}
+use Rattle.figures.specs.declared.roof.Shape.TheVariants.{Monopitch, Pitched, MultiSpan, Cylindrical, Abutting, Projection}
 use Rattle.figures.specs.declared.roof.Roof.{Roof}
 use Rattle.figures.proofs.Accepted.{shape_in}
 
@@ -41,7 +40,6 @@ shape_sides (MultiSpan count drifts) spans n f = tt
 shape_sides (Cylindrical rise span) spans n f = tt
 shape_sides (Abutting b1 b2 h slope guard stepped) spans n f = tt
 shape_sides (Projection h left right) spans n f = tt
-shape_sides (Obstructed by) spans n f = tt
 
 -- another kind has no slope here
 pub no_sides :
@@ -84,5 +82,3 @@ first_present (Cylindrical rise span) e = e
 first_present (Abutting b1 b2 h slope guard true) e = e
 first_present (Abutting b1 b2 h slope guard false) e = e
 first_present (Projection h left right) e = e
-first_present (Obstructed (Parapet h b1 b2)) e = e
-first_present (Obstructed (SmallProjection h1 h2 b1 b2)) e = e

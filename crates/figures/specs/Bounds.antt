@@ -4,10 +4,8 @@ use Rattle.figures.specs.RoofRules.{slope_of}
 use Rattle.figures.specs.declared.national.National.{National}
 use Rattle.figures.specs.declared.site.Site.{Site}
 use Rattle.figures.specs.declared.roof.Slope.{Slope}
-use Rattle.figures.specs.declared.roof.Obstruction.{Obstruction}
-use Rattle.figures.specs.declared.roof.Obstruction.TheVariants.{Parapet, SmallProjection}
 use Rattle.figures.specs.declared.roof.Shape.{Shape}
-use Rattle.figures.specs.declared.roof.Shape.TheVariants.{Monopitch, Pitched, MultiSpan, Cylindrical, Abutting, Projection, Obstructed}
+use Rattle.figures.specs.declared.roof.Shape.TheVariants.{Monopitch, Pitched, MultiSpan, Cylindrical, Abutting, Projection}
 
 pub record Within (a b x : ℕ) : Type 0 where
   pub low : a ≤ x
@@ -64,16 +62,6 @@ pub record ProjectionIn (h a b : ℕ) : Type 0 where
   pub left : Within 1 100000 a
   pub right : Within 1 100000 b
 
-pub record SmallProjectionIn (h1 h2 b1 b2 : ℕ) : Type 0 where
-  pub left_height : Within 1 1000 h1
-  pub right_height : Within 1 1000 h2
-  pub left : Within 1 100000 b1
-  pub right : Within 1 100000 b2
-
-abbrev pub ObstructionIn : Obstruction → Type 0
-ObstructionIn (Parapet h b1 b2) = ProjectionIn h b1 b2
-ObstructionIn (SmallProjection h1 h2 b1 b2) = SmallProjectionIn h1 h2 b1 b2
-
 abbrev pub ShapeIn : Shape → List ℕ → Type 0
 ShapeIn (Monopitch slope guard) spans = MonopitchIn slope guard
 ShapeIn (Pitched left right left_guard right_guard) spans = PitchedIn left right left_guard right_guard
@@ -81,4 +69,3 @@ ShapeIn (MultiSpan count drifts) spans = MultiSpanIn count spans
 ShapeIn (Cylindrical rise span) spans = CylindricalIn rise span
 ShapeIn (Abutting b1 b2 h slope guard stepped) spans = AbuttingIn b1 b2 h slope guard
 ShapeIn (Projection h left right) spans = ProjectionIn h left right
-ShapeIn (Obstructed by) spans = ObstructionIn by

@@ -5,16 +5,9 @@ use Rattle.figures.specs.Rules.{refused_if, first_of}
 use Rattle.figures.specs.declared.roof.Slope.{Slope}
 use Rattle.figures.specs.declared.roof.Valley.{Valley}
 use Rattle.figures.specs.declared.roof.LowerRoof.{LowerRoof}
-use Rattle.figures.specs.declared.roof.Obstruction.{Obstruction}
-use Rattle.figures.specs.declared.roof.Obstruction.TheVariants.{Parapet, SmallProjection}
 use Rattle.figures.specs.declared.roof.Shape.{Shape}
-use Rattle.figures.specs.declared.roof.Shape.TheVariants.{Monopitch, Pitched, MultiSpan, Cylindrical, Abutting, Projection, Obstructed}
+use Rattle.figures.specs.declared.roof.Shape.TheVariants.{Monopitch, Pitched, MultiSpan, Cylindrical, Abutting, Projection}
 use Rattle.figures.specs.declared.roof.Roof.{Roof}
-
--- document 02, A9: "Item kind 11 is a parapet", "Item kind 12 is a projection up to 1 m high"
-abbrev pub obstruction_kind : Obstruction → ℕ
-obstruction_kind (Parapet h b1 b2) = 11
-obstruction_kind (SmallProjection h1 h2 b1 b2) = 12
 
 -- the kind of a shape, by the documents' number
 abbrev pub kind_of : Shape → ℕ
@@ -24,18 +17,15 @@ kind_of (MultiSpan count drifts) = cond drifts 9 4
 kind_of (Cylindrical rise span) = 5
 kind_of (Abutting b1 b2 h slope guard stepped) = cond stepped 10 6
 kind_of (Projection h left right) = 7
-kind_of (Obstructed by) = obstruction_kind by
 
--- how many exceptional drifts of Annex B a shape has room for: one in each valley of a multi-span roof, one at an obstruction; which of
--- them exist is told by the kind and the situation
-abbrev pub drifts_of : Shape → ℕ
-drifts_of (Monopitch slope guard) = 0
-drifts_of (Pitched left right left_guard right_guard) = 0
-drifts_of (MultiSpan count drifts) = count - 1
-drifts_of (Cylindrical rise span) = 0
-drifts_of (Abutting b1 b2 h slope guard stepped) = 0
-drifts_of (Projection h left right) = 0
-drifts_of (Obstructed by) = 1
+-- the spans of a multi-span roof, 0 for any other
+abbrev pub span_count : Shape → ℕ
+span_count (Monopitch slope guard) = 0
+span_count (Pitched left right left_guard right_guard) = 0
+span_count (MultiSpan count drifts) = count
+span_count (Cylindrical rise span) = 0
+span_count (Abutting b1 b2 h slope guard stepped) = 0
+span_count (Projection h left right) = 0
 
 -- a roof of a shape, with the numbers of a multi-span roof's spans
 abbrev pub roof_of : Shape → List ℕ → Roof
@@ -115,16 +105,6 @@ abutting_refusal b1 b2 h slope guard stepped =
 abbrev pub projection_refusal : ℕ → ℕ → ℕ → ℕ
 projection_refusal h left right = refused_if (not (within 1 30000 h && within 1 100000 left && within 1 100000 right)) 8
 
--- kind 12, document 02, A9: "h1 and h2 (1..1,000)"; "the widths keep document 01's ranges"
-abbrev pub small_projection_refusal : ℕ → ℕ → ℕ → ℕ → ℕ
-small_projection_refusal h1 h2 b1 b2 =
-    refused_if (not (within 1 1000 h1 && within 1 1000 h2 && within 1 100000 b1 && within 1 100000 b2)) 8
-
--- kinds 11 and 12; a parapet has kind 7's fields: "h and the widths keep document 01's ranges"
-abbrev pub obstruction_refusal : Obstruction → ℕ
-obstruction_refusal (Parapet h b1 b2) = projection_refusal h b1 b2
-obstruction_refusal (SmallProjection h1 h2 b1 b2) = small_projection_refusal h1 h2 b1 b2
-
 -- an item of kind 10 by itself: b2, h and "its adjacent side (8: 0 left, 1 right)"
 abbrev pub lower_refusal : LowerRoof → ℕ
 lower_refusal lower = refused_if (not (within 1 100000 lower.b2 && within 1 30000 lower.h && leb lower.side 1)) 8
@@ -137,7 +117,6 @@ shape_refusal (MultiSpan count drifts) spans = multi_span_refusal count drifts s
 shape_refusal (Cylindrical rise span) spans = cylindrical_refusal rise span
 shape_refusal (Abutting b1 b2 h slope guard stepped) spans = abutting_refusal b1 b2 h slope guard stepped
 shape_refusal (Projection h left right) spans = projection_refusal h left right
-shape_refusal (Obstructed by) spans = obstruction_refusal by
 
 -- "a roof likewise, here 8, 9 and 10": it is accepted (document 01, words of demand 3) where this is 0
 abbrev pub roof_refusal : Roof → ℕ

@@ -3,7 +3,7 @@ use Rattle.std.specs.Prelude.{ℕ, Bool, true, false, cond, List, ◌≡◌, eqb
 use Rattle.figures.specs.RoofRules.{shape_refusal}
 use Rattle.figures.specs.declared.roof.Slope.{Slope}
 use Rattle.figures.specs.declared.roof.Shape.{Shape}
-use Rattle.figures.specs.declared.roof.Shape.TheVariants.{Monopitch, Pitched, MultiSpan, Cylindrical, Abutting, Projection, Obstructed}
+use Rattle.figures.specs.declared.roof.Shape.TheVariants.{Monopitch, Pitched, MultiSpan, Cylindrical, Abutting, Projection}
 
 -- the slope of a roof by its number, with its guard: 1 left or only, 2 right; kinds 2 and 3 alone have slopes here
 pub data SlopeAt : Type 0 where
@@ -18,7 +18,6 @@ slope_at (MultiSpan count drifts) n = no_slope
 slope_at (Cylindrical rise span) n = no_slope
 slope_at (Abutting b1 b2 h slope guard stepped) n = no_slope
 slope_at (Projection h left right) n = no_slope
-slope_at (Obstructed by) n = no_slope
 
 -- whether the roof has the slope
 abbrev pub present : SlopeAt → Bool

@@ -7,9 +7,7 @@ mod site;
 mod slopes;
 
 pub use national::{National, NationalSet, recommended};
-pub use roof::{
-    LowerRoof, Obstruction, Roof, SPAN_NUMBERS, Shape, Slope, Valley, drifts_of, kind_of,
-};
+pub use roof::{LowerRoof, Roof, SPAN_NUMBERS, Shape, Slope, Valley, kind_of, span_count};
 pub use rules::{first, refused_if};
 pub use site::{Ground, JobDay, Site, SiteData};
 pub use slopes::{slope_at, valley_at};

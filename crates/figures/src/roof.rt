@@ -1,6 +1,6 @@
 // A roof: its shape, with the slopes and valleys of a multi-span roof beside it.
 ghost use Rattle.std.specs.Prelude.{◌≡◌};
-ghost use Rattle.figures.specs.RoofRules.{obstruction_kind, kind_of, drifts_of};
+ghost use Rattle.figures.specs.RoofRules.{kind_of, span_count};
 
 // How many numbers the spans of a multi-span roof take: two for each of 32 slopes, and two for each of 15 valleys.
 pub const SPAN_NUMBERS: usize = 94;
@@ -29,15 +29,7 @@ pub struct LowerRoof {
     pub side: u8,
 }
 
-// What snow drifts at by B4 of Annex B. A parapet, kind 11, has the roof behind it, b1, and b2. A projection up to 1 m high,
-// kind 12, has a height and a width on each side, left then right.
-#[derive(Drop)]
-pub enum Obstruction {
-    Parapet { h: u32, b1: u32, b2: u32 },
-    SmallProjection { h1: u32, h2: u32, b1: u32, b2: u32 },
-}
-
-// The shape of a roof, kinds 2 to 7 and 9 to 12. Lengths in mm; a guard is 0 or 1. A multi-span roof with drifts in its
+// The shape of a roof, kinds 2 to 7, 9 and 10. Lengths in mm; a guard is 0 or 1. A multi-span roof with drifts in its
 // valleys by Annex B is of kind 9, one without them of kind 4. A lower roof whose upper figures come from another item of
 // its sheet is stepped, of kind 10; one that has them in its own item is of kind 6.
 #[derive(Drop)]
@@ -73,9 +65,6 @@ pub enum Shape {
         left: u32,
         right: u32,
     },
-    Obstructed {
-        by: Obstruction,
-    },
 }
 
 // A roof. The slopes of a multi-span roof stand from left to right, two numbers each: pitch and width. Behind the place of
@@ -84,16 +73,6 @@ pub enum Shape {
 pub struct Roof {
     pub shape: Shape,
     pub spans: [u32; SPAN_NUMBERS],
-}
-
-// The kind of a roof by what snow drifts at on it.
-fn obstruction_kind(by: Obstruction) -> u8
-    ensures { result ≡ obstruction_kind by }
-{
-    match by {
-        Obstruction::Parapet { .. } => 11,
-        Obstruction::SmallProjection { .. } => 12,
-    }
 }
 
 // The kind of a shape, by the documents' number.
@@ -124,26 +103,19 @@ pub fn kind_of(shape: Shape) -> u8
             6
         },
         Shape::Projection { .. } => 7,
-        Shape::Obstructed { by } => obstruction_kind(by),
     }
 }
 
-// How many exceptional drifts a shape has room for: one in each valley of a multi-span roof, one at an obstruction.
-pub fn drifts_of(shape: Shape) -> u8
-    ensures { result ≡ drifts_of shape }
+// How many spans a multi-span roof has, 0 for any other.
+pub fn span_count(shape: Shape) -> u8
+    ensures { result ≡ span_count shape }
 {
     match shape {
         Shape::Monopitch { .. } => 0,
         Shape::Pitched { .. } => 0,
-        Shape::MultiSpan { count, drifts: _ } => {
-            if count == 0 {
-                return 0;
-            }
-            count - 1
-        },
+        Shape::MultiSpan { count, drifts: _ } => count,
         Shape::Cylindrical { .. } => 0,
         Shape::Abutting { .. } => 0,
         Shape::Projection { .. } => 0,
-        Shape::Obstructed { .. } => 1,
     }
 }

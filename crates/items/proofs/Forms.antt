@@ -20,10 +20,10 @@ module _ (p : List ℕ) where
 -- a byte that is none of the kinds
 pub unknown :
     (k : ℕ) (p : List ℕ) → (k ≡ 1 → ⊥) → (k ≡ 2 → ⊥) → (k ≡ 3 → ⊥) → (k ≡ 4 → ⊥) → (k ≡ 5 → ⊥) → (k ≡ 6 → ⊥) → (k ≡ 7 → ⊥)
-    → (k ≡ 8 → ⊥) → (k ≡ 9 → ⊥) → (k ≡ 10 → ⊥) → (k ≡ 11 → ⊥) → (k ≡ 12 → ⊥)
+    → (k ≡ 8 → ⊥) → (k ≡ 9 → ⊥) → (k ≡ 10 → ⊥)
     → malformed 3 ≡ by_kind k p
 unfolding by_kind
-unknown k p a b c d e f g h i j l m =
+unknown k p a b c d e f g h i j =
     rw (
       ne_eqb k 1 a,
       ne_eqb k 2 b,
@@ -35,6 +35,4 @@ unknown k p a b c d e f g h i j l m =
       ne_eqb k 8 h,
       ne_eqb k 9 i,
       ne_eqb k 10 j,
-      ne_eqb k 11 l,
-      ne_eqb k 12 m,
     )

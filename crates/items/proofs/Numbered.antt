@@ -15,7 +15,6 @@ use Rattle.item_forms.specs.Forms.{malformed, sized}
 use Rattle.item_forms.specs.declared.Item.{Item}
 use Rattle.item_forms.specs.declared.Item.TheVariants.{SiteItem, RoofItem, LowerItem, Malformed}
 use Rattle.item_forms.specs.declared.Decoded.{Decoded}
-use Rattle.obstruction_items.specs.ObstructionItems.{parapet_item, small_projection_item}
 use Rattle.site_items.specs.SiteItems.{site_length, site_sized, site_item, map_site_item}
 use Rattle.roof_items.specs.RoofItems.{monopitch_item, pitched_item, cylindrical_item, abutting_item, projection_item, lower_item}
 use Rattle.span_items.specs.SpanItems.{multi_span_item, drifted_item}
@@ -32,9 +31,7 @@ module _ (P : Item → Type 0) (site : (fields : SiteData) → P (SiteItem field
   of_size n p d h = either (eqb (length p) n) d (malformed 4) (λ e. h (eqb-true (length p) n e)) (bad 4 (omega arith))
 
   by_kind_lem : (k : ℕ) (p : List ℕ) → ((lower : LowerRoof) → k ≡ 10 → length p ≡ 11 → P (LowerItem lower)) → P (by_kind k p).item
-  unfolding
-      by_kind site_item monopitch_item pitched_item multi_span_item cylindrical_item abutting_item projection_item map_site_item drifted_item lower_item parapet_item
-      small_projection_item site_sized
+  unfolding by_kind site_item monopitch_item pitched_item multi_span_item cylindrical_item abutting_item projection_item map_site_item drifted_item lower_item site_sized
   by_kind_lem k p lower =
       either (eqb k 1) _ _ (λ e. either (site_length 14 (length p)) _ _ (λ l. site _) (bad 4 (omega arith)))
       (either (eqb k 2) _ _ (λ e. of_size _ p _ (λ l. roof _))
@@ -45,9 +42,7 @@ module _ (P : Item → Type 0) (site : (fields : SiteData) → P (SiteItem field
       (either (eqb k 7) _ _ (λ e. of_size _ p _ (λ l. roof _))
       (either (eqb k 8) _ _ (λ e. either (site_length 12 (length p)) _ _ (λ l. site _) (bad 4 (omega arith)))
       (either (eqb k 9) _ _ (λ e. either (eqb (byte_at p 1) 0) _ _ (λ z. bad 4 (omega arith)) (of_size _ p _ (λ l. roof _)))
-      (either (eqb k 10) _ _ (λ e. of_size _ p _ (λ l. lower _ (eqb-true k 10 e) l))
-      (either (eqb k 11) _ _ (λ e. of_size _ p _ (λ l. roof _))
-      (either (eqb k 12) _ _ (λ e. of_size _ p _ (λ l. roof _)) (bad 3 (omega arith)))))))))))))
+      (either (eqb k 10) _ _ (λ e. of_size _ p _ (λ l. lower _ (eqb-true k 10 e) l)) (bad 3 (omega arith)))))))))))
 
   -- what holds of every form holds of what an item's bytes say
   pub by_content : (p : List ℕ) → ((lower : LowerRoof) → byte_at p 0 ≡ 10 → length p ≡ 11 → P (LowerItem lower)) → P (content p).item

@@ -3,7 +3,6 @@ use Rattle.std.specs.Prelude.{ℕ, cond, List, eqb, length}
 use Rattle.little_endian.specs.Numbers.{byte_at}
 use Rattle.item_forms.specs.Forms.{malformed}
 use Rattle.item_forms.specs.declared.Decoded.{Decoded}
-use Rattle.obstruction_items.specs.ObstructionItems.{parapet_item, small_projection_item}
 use Rattle.site_items.specs.SiteItems.{site_item, map_site_item}
 use Rattle.roof_items.specs.RoofItems.{monopitch_item, pitched_item, cylindrical_item, abutting_item, projection_item, lower_item}
 use Rattle.span_items.specs.SpanItems.{multi_span_item, drifted_item}
@@ -21,9 +20,7 @@ by_kind kind p =
     (cond (eqb kind 8) (map_site_item p)
     (cond (eqb kind 9) (drifted_item p)
     (cond (eqb kind 10) (lower_item p)
-    (cond (eqb kind 11) (parapet_item p)
-    (cond (eqb kind 12) (small_projection_item p)
-    (malformed 3))))))))))))
+    (malformed 3))))))))))
 
 -- what an item's bytes say: "empty (4), 3, 4"
 unfoldable pub content : List ℕ → Decoded

@@ -5,7 +5,6 @@ ghost use Rattle.items.specs.Items.{content};
 
 pub use item_forms::{Decoded, Item};
 use item_forms::{ITEM_LENGTH, UNKNOWN_KIND, refused};
-use obstruction_items::{parapet_item, small_projection_item};
 use roof_items::{
     abutting_item, cylindrical_item, lower_item, monopitch_item, pitched_item, projection_item,
 };
@@ -55,12 +54,6 @@ pub fn decode(p: &[u8]) -> Decoded
     }
     if kind == 10 {
         return lower_item(p);
-    }
-    if kind == 11 {
-        return parapet_item(p);
-    }
-    if kind == 12 {
-        return small_projection_item(p);
     }
     refused(UNKNOWN_KIND)
 }

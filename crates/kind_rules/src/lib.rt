@@ -1,7 +1,6 @@
-// The value rules on a roof, refusals 8, 9 and 10: one function a kind. Those of lower roofs stand in `lower_rules`, those of
-// projections and parapets in `projection_rules`.
+// The value rules on a roof, refusals 8, 9 and 10: one function a kind. Those of lower roofs stand in `lower_rules`.
 ghost use Rattle.std.specs.Prelude.{◌≡◌};
-ghost use Rattle.figures.specs.RoofRules.{monopitch_refusal, pitched_refusal, multi_span_refusal, cylindrical_refusal};
+ghost use Rattle.figures.specs.RoofRules.{monopitch_refusal, pitched_refusal, multi_span_refusal, cylindrical_refusal, projection_refusal};
 
 use figures::{SPAN_NUMBERS, Slope, first, refused_if};
 use slope_rules::{slope_fields, span_fields, steep_valleys};
@@ -52,4 +51,14 @@ pub fn cylindrical_refusal(rise: u32, span: u32) -> u8
     let sound = ((1 <= rise) & (rise <= 15_000)) & ((2 <= span) & (span <= 30_000));
     let fields = refused_if(!sound, ROOF_FIELD);
     first(fields, refused_if((span as u64) < 2 * (rise as u64), RISE))
+}
+
+// Kind 7.
+pub fn projection_refusal(h: u32, left: u32, right: u32) -> u8
+    ensures { result ≡ projection_refusal h left right }
+{
+    let sound = ((1 <= h) & (h <= 30_000))
+        & ((1 <= left) & (left <= 100_000))
+        & ((1 <= right) & (right <= 100_000));
+    refused_if(!sound, ROOF_FIELD)
 }

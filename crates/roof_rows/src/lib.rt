@@ -1,13 +1,13 @@
 // The rows of one roof: its arrangements, code upward, and after them its local forces, slope by slope.
 ghost use Rattle.std.specs.Prelude.{true, ◌≡◌, ◌+◌, ◌*◌, ◌≤◌, length};
-ghost use Rattle.figures.specs.RoofRules.{roof_of, kind_of, drifts_of};
+ghost use Rattle.figures.specs.RoofRules.{roof_of, kind_of, span_count};
 ghost use Rattle.roof_rows.specs.Rows.{code_rows, arrangement_rows, roof_rows, row_count};
 ghost use Rattle.standard.specs.Arrangements.{exists};
 ghost use Rattle.standard.specs.Bounds.{FiguresIn};
 ghost use Rattle.text.specs.Text.{Wrote};
 
-use codes::{codes_before, has_code, last_code};
-use figures::{National, Roof, SPAN_NUMBERS, Shape, Site, drifts_of, kind_of};
+use codes::{has_code, last_code};
+use figures::{National, Roof, SPAN_NUMBERS, Shape, Site, kind_of, span_count};
 use force_rows::list_forces;
 use segment_rows::list_segments;
 use written_segments::write;
@@ -50,7 +50,7 @@ fn list_code(
     out: &mut [u8],
     at: usize,
 ) -> usize
-    requires kind_value { (kind ≡ kind_of shape) × (count ≡ drifts_of shape) }
+    requires kind_value { (kind ≡ kind_of shape) × (count ≡ span_count shape) }
     requires figures_in { FiguresIn national site (roof_of shape spans.now) × (at + 66 * row_count national site (roof_of shape spans.now) code ≤ length out.old) }
     ensures wrote { Wrote out.old at (code_rows national site (roof_of shape spans.now) item code) out.new result }
     ensures upper_bound { result ≤ at + 66 * row_count national site (roof_of shape spans.now) code }
@@ -77,10 +77,10 @@ fn list_codes(
     ensures upper_bound { result ≤ at + 8448 }
 {
     let kind = kind_of(shape);
-    let count = drifts_of(shape);
+    let count = span_count(shape);
     let last = last_code(kind, site.situation, count);
     let mut a = at;
-    let mut code = codes_before(kind, site.situation);
+    let mut code: u8 = 0;
     while code < last {
         code += 1;
         a = list_code(

@@ -3,9 +3,10 @@ ghost use Rattle.std.specs.Prelude.{◌≡◌};
 ghost use Rattle.figures.specs.RoofRules.{shape_refusal, roof_refusal};
 
 use figures::{Roof, SPAN_NUMBERS, Shape};
-use kind_rules::{cylindrical_refusal, monopitch_refusal, multi_span_refusal, pitched_refusal};
+use kind_rules::{
+    cylindrical_refusal, monopitch_refusal, multi_span_refusal, pitched_refusal, projection_refusal,
+};
 use lower_rules::abutting_refusal;
-use projection_rules::{obstruction_refusal, projection_refusal};
 
 // The number of the first value rule that a shape with its slopes breaks, 0 where it breaks none.
 pub fn shape_refusal(shape: Shape, spans: &[u32; SPAN_NUMBERS]) -> u8
@@ -30,7 +31,6 @@ pub fn shape_refusal(shape: Shape, spans: &[u32; SPAN_NUMBERS]) -> u8
             stepped,
         } => abutting_refusal(b1, b2, h, slope, guard, stepped),
         Shape::Projection { h, left, right } => projection_refusal(h, left, right),
-        Shape::Obstructed { by } => obstruction_refusal(by),
     }
 }
 

@@ -47,6 +47,5 @@ pub fn slope_of(shape: Shape, number: u8) -> RoofSlope
         Shape::Cylindrical { .. } => RoofSlope::Missing,
         Shape::Abutting { .. } => RoofSlope::Missing,
         Shape::Projection { .. } => RoofSlope::Missing,
-        Shape::Obstructed { .. } => RoofSlope::Missing,
     }
 }

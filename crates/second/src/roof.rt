@@ -6,8 +6,7 @@ use second_arch::{arch_count, on_cylinder};
 use second_codes::persistent;
 use second_drifts::{around_projection, at_wall, beyond_wall, projection_count, wall_count};
 use second_numbers::{Segment, hundredths, quarters, sum};
-use second_obstructions::{at_obstruction, obstructed_length, obstruction_count};
-use second_slopes::{on_monopitch, on_pitched, on_spans, slope_start};
+use second_slopes::{on_left, on_monopitch, on_right, on_spans, slope_start};
 use second_valleys::{DRIFT_SEGMENTS, in_drift};
 
 // The slopes of a multi-span roof.
@@ -38,7 +37,6 @@ pub fn segment_count(national: National, shape: Shape, code: u8) -> usize
         Shape::Cylindrical { rise, span } => arch_count(rise, span, base),
         Shape::Abutting { b2, h, .. } => wall_count(national, b2, h, base),
         Shape::Projection { h, left, right } => projection_count(h, left, right),
-        Shape::Obstructed { by } => obstruction_count(by),
     }
 }
 
@@ -56,7 +54,13 @@ pub fn segment_at(national: National, roof: Roof, code: u8, sk: u32, i: usize) -
             right,
             left_guard,
             right_guard,
-        } => on_pitched(left, right, left_guard, right_guard, base, i),
+        } => {
+            if i == 0 {
+                on_left(left, left_guard, base)
+            } else {
+                on_right(left, right, right_guard, base)
+            }
+        }
         Shape::MultiSpan { count, .. } => {
             if 30 < code {
                 return in_drift(&spans, slope_count(count), code, sk, i);
@@ -81,7 +85,6 @@ pub fn segment_at(national: National, roof: Roof, code: u8, sk: u32, i: usize) -
             }
         }
         Shape::Projection { h, left, right } => around_projection(h, left, right, sk, i),
-        Shape::Obstructed { by } => at_obstruction(by, sk, i),
     }
 }
 
@@ -96,6 +99,5 @@ pub fn roof_end(roof: Roof) -> u32 {
         Shape::Cylindrical { span, .. } => quarters(span),
         Shape::Abutting { b2, .. } => quarters(b2),
         Shape::Projection { left, right, .. } => quarters(sum(left, right)),
-        Shape::Obstructed { by } => quarters(obstructed_length(by)),
     }
 }

@@ -28,8 +28,7 @@ fn drifted_exists(count: u8, situation: u8, code: u8) -> bool {
     }
 }
 
-// Whether the roof has the code. At a projection there is 2 alone, and never a code of exceptional falls. A parapet and a small
-// projection have "One code, 31, in situations 2 and 3".
+// Whether the roof has the code. At a projection there is 2 alone, and never a code of exceptional falls.
 pub fn exists(shape: Shape, situation: u8, code: u8) -> bool {
     let base = persistent(code);
     let allowed = falls_allow(situation, code);
@@ -45,6 +44,5 @@ pub fn exists(shape: Shape, situation: u8, code: u8) -> bool {
         Shape::Cylindrical { .. } => allowed & (1 <= base) & (base <= 2),
         Shape::Abutting { .. } => allowed & (1 <= base) & (base <= 2),
         Shape::Projection { .. } => code == 2,
-        Shape::Obstructed { .. } => (code == 31) & ((situation == 2) | (situation == 3)),
     }
 }

@@ -14,33 +14,17 @@ fn halved_if(half: bool, ratio: Ratio) -> Ratio {
 }
 
 // Kind 3, the left slope: code 2 halves it.
-fn on_left(left: Slope, guard: u8, code: u8) -> Segment {
+pub fn on_left(left: Slope, guard: u8, code: u8) -> Segment {
     let ratio = on_slope(left.pitch, guard);
     even(0, quarters(left.width), halved_if(code == 2, ratio))
 }
 
 // Kind 3, the right slope: code 3 halves it.
-fn on_right(left: Slope, right: Slope, guard: u8, code: u8) -> Segment {
+pub fn on_right(left: Slope, right: Slope, guard: u8, code: u8) -> Segment {
     let ridge = quarters(left.width);
     let end = sum(ridge, quarters(right.width));
     let ratio = on_slope(right.pitch, guard);
     even(ridge, end, halved_if(code == 3, ratio))
-}
-
-// Kind 3, the segment at an index.
-pub fn on_pitched(
-    left: Slope,
-    right: Slope,
-    left_guard: u8,
-    right_guard: u8,
-    code: u8,
-    i: usize,
-) -> Segment {
-    if i == 0 {
-        on_left(left, left_guard, code)
-    } else {
-        on_right(left, right, right_guard, code)
-    }
 }
 
 // The slope at an index, from the left, from its two numbers: even ones rise to a ridge, odd ones fall to a valley.

@@ -12,7 +12,6 @@ use drift_ramps::{
     projection_ramp,
 };
 use figures::{National, SPAN_NUMBERS, Shape};
-use obstructions::{obstruction_count, obstruction_end, obstruction_ramp};
 use ramps::Ramp;
 use slope_ramps::{pitched_ramp, slope_ramp, widths_between};
 
@@ -39,7 +38,6 @@ pub fn count_in(national: National, shape: Shape, spans: &[u32; SPAN_NUMBERS], c
             left as u64,
             right as u64,
         ),
-        Shape::Obstructed { by } => obstruction_count(by),
     }
 }
 
@@ -101,7 +99,6 @@ pub fn ramp_in(
             sk,
             i,
         ),
-        Shape::Obstructed { by } => obstruction_ramp(by, sk, i),
     }
 }
 
@@ -129,6 +126,5 @@ pub fn end(shape: Shape, spans: &[u32; SPAN_NUMBERS]) -> u64
             stepped: _,
         } => 4 * (b2 as u64),
         Shape::Projection { h: _, left, right } => 4 * (left as u64 + right as u64),
-        Shape::Obstructed { by } => 4 * obstruction_end(by),
     }
 }

@@ -1,11 +1,11 @@
 // Kinds 4 and 9: a code that names a valley has its drift, any other the arrangement of the slopes.
 ghost use Rattle.std.specs.Prelude.{◌≡◌, ◌≤◌, ◌<◌};
-ghost use Rattle.figures.specs.Bounds.{Within, MultiSpanIn};
+ghost use Rattle.figures.specs.Bounds.{MultiSpanIn};
 ghost use Rattle.loads.specs.Sizes.{Ground};
 ghost use Rattle.ramps.specs.Ramps.{ramp_of, RampIn};
 ghost use Rattle.standard.specs.ValleyDrift.{spans_stretch, spans_count};
 
-use codes::{drift_named, names_drift};
+use codes::{names_valley, valley_named};
 use figures::SPAN_NUMBERS;
 use ramps::Ramp;
 use slope_ramps::multi_span_ramp;
@@ -13,10 +13,10 @@ use valley_drifts::valley_ramp;
 
 // How many stretches the roof has.
 pub fn spans_count(count: u8, code: u8) -> usize
-    requires { Within 2 16 count }
+    requires { count ≤ 16 }
     ensures { (result ≡ spans_count count code) × (result ≤ 32) }
 {
-    if names_drift(count - 1, code) {
+    if names_valley(count, code) {
         return 4;
     }
     2 * (count as usize)
@@ -34,8 +34,8 @@ pub fn spans_ramp(
     requires { MultiSpanIn count spans.now × (i < spans_count count code) × Ground factor sk }
     ensures { (result ≡ ramp_of (spans_stretch factor sk spans.now count code i)) × RampIn result }
 {
-    if names_drift(count - 1, code) {
-        return valley_ramp(spans, count as usize, drift_named(code), sk, i);
+    if names_valley(count, code) {
+        return valley_ramp(spans, count as usize, valley_named(code), sk, i);
     }
     multi_span_ramp(spans, count as usize, code == 1, factor, sk, i)
 }

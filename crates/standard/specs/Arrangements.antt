@@ -2,18 +2,16 @@
 -- and the exact rule there. One definition a kind, dispatched here.
 use Rattle.std.specs.Prelude.{ℕ, suc, ◌+◌, ◌*◌, Bool, false, cond, not, ◌&&◌, List, ltb, eqb}
 use Rattle.figures.specs.Ranges.{within}
-use Rattle.figures.specs.RoofRules.{kind_of, drifts_of}
+use Rattle.figures.specs.RoofRules.{kind_of, span_count}
 use Rattle.figures.specs.declared.site.Site.{Site}
 use Rattle.figures.specs.declared.roof.Shape.{Shape}
-use Rattle.figures.specs.declared.roof.Shape.TheVariants.{Monopitch, Pitched, MultiSpan, Cylindrical, Abutting, Projection, Obstructed}
+use Rattle.figures.specs.declared.roof.Shape.TheVariants.{Monopitch, Pitched, MultiSpan, Cylindrical, Abutting, Projection}
 use Rattle.figures.specs.declared.roof.Roof.{Roof}
 use Rattle.rounding.specs.Fraction.{Fraction, Near}
 use Rattle.standard.specs.Codes.{accidental, base_code, exists_in}
 use Rattle.standard.specs.Monopitch.{monopitch}
 use Rattle.standard.specs.Pitched.{pitched}
-use Rattle.standard.specs.Drift.{drift_count, drift_ramped}
 use Rattle.standard.specs.MultiSpan.{widths}
-use Rattle.standard.specs.Obstruction.{obstruction_lengths, obstructed, obstruction_end}
 use Rattle.standard.specs.Cylindrical.{loaded_width, cylindrical, cylindrical_count}
 use Rattle.standard.specs.Abutting.{abutting, abutting_count}
 use Rattle.standard.specs.Projection.{projection_length, projection, projection_count}
@@ -38,7 +36,6 @@ count_in national (MultiSpan count drifts) code = spans_count count code
 count_in national (Cylindrical rise span) code = cylindrical_count rise span (eqb code 1)
 count_in national (Abutting b1 b2 h slope guard stepped) code = abutting_count national b2 h (eqb code 1)
 count_in national (Projection h left right) code = projection_count h left right
-count_in national (Obstructed by) code = drift_count (obstruction_lengths by)
 
 -- the stretch at an index
 unfoldable pub stretch_in : National → Shape → List ℕ → ℕ → ℕ → ℕ → ℕ → Stretch
@@ -50,7 +47,6 @@ stretch_in national (Cylindrical rise span) spans factor sk code i = cylindrical
 stretch_in national (Abutting b1 b2 h slope guard stepped) spans factor sk code i =
     abutting national factor sk b1 b2 h slope guard (eqb code 1) i
 stretch_in national (Projection h left right) spans factor sk code i = projection factor sk h left right i
-stretch_in national (Obstructed by) spans factor sk code i = obstructed sk by i
 
 -- which stretches are ramps; every other is even. In a row that begins with its second stretch the index is one less
 unfoldable pub ramped_in : National → Shape → ℕ → ℕ → Bool
@@ -60,7 +56,6 @@ ramped_in national (MultiSpan count drifts) code i = spans_ramped count code i
 ramped_in national (Cylindrical rise span) code i = not (eqb code 1) && within 1 4 (cond (ltb (loaded_width rise span) span) i (suc i))
 ramped_in national (Abutting b1 b2 h slope guard stepped) code i = not (eqb code 1) && eqb i 0
 ramped_in national (Projection h left right) code i = within 1 2 (cond (ltb (projection_length h) left) i (suc i))
-ramped_in national (Obstructed by) code i = drift_ramped (obstruction_lengths by) i
 
 -- the roof's length in quarter millimetres
 unfoldable pub end_in : Shape → List ℕ → ℕ
@@ -70,11 +65,10 @@ end_in (MultiSpan count drifts) spans = 4 * widths spans (2 * count)
 end_in (Cylindrical rise span) spans = 4 * span
 end_in (Abutting b1 b2 h slope guard stepped) spans = 4 * b2
 end_in (Projection h left right) spans = 4 * (left + right)
-end_in (Obstructed by) spans = 4 * obstruction_end by
 
 -- "An arrangement exists where these rules give its code to the roof in the site's situation" (document 01, words of demand 3)
 unfoldable pub exists : Site → Roof → ℕ → Bool
-exists site roof code = exists_in (kind_of roof.shape) site.situation (drifts_of roof.shape) code
+exists site roof code = exists_in (kind_of roof.shape) site.situation (span_count roof.shape) code
 
 -- the same of a roof: the number of segments, the stretch at an index, the end. A station (document 01's term) is a whole number,
 -- and lies on the roof from 0 to this end, both included

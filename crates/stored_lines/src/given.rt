@@ -2,7 +2,7 @@
 ghost use Rattle.std.specs.Prelude.{◌≤◌, ◌<◌};
 
 use crate::words::{MISSING, NONE, count_of, number};
-use figures::{JobDay, Obstruction, Roof, SPAN_NUMBERS, Shape, Site, Slope};
+use figures::{JobDay, Roof, SPAN_NUMBERS, Shape, Site, Slope};
 
 // A place that no line reaches.
 const BEYOND: u32 = 900;
@@ -61,41 +61,26 @@ pub fn site_of(text: &[u8], at: usize, first: u32, day: JobDay) -> Site {
     }
 }
 
-fn slope_of(pitch: u32, width: u32) -> Slope {
-    Slope {
-        pitch: pitch,
-        width: width,
-    }
-}
-
-// What snow drifts at on a roof of kind 11 or 12.
-fn obstruction_of(row: Row) -> Obstruction {
-    if row.a == 11 {
-        return Obstruction::Parapet {
-            h: row.b,
-            b1: row.c,
-            b2: row.d,
-        };
-    }
-    Obstruction::SmallProjection {
-        h1: row.b,
-        h2: row.c,
-        b1: row.d,
-        b2: row.e,
-    }
-}
-
 // The shape of a roof: its kind, and its fields in the sheet's order.
 fn shape_of(row: Row) -> Shape {
     let kind = row.a;
     match kind {
         2 => Shape::Monopitch {
-            slope: slope_of(row.b, row.d),
+            slope: Slope {
+                pitch: row.b,
+                width: row.d,
+            },
             guard: byte(row.c),
         },
         3 => Shape::Pitched {
-            left: slope_of(row.b, row.f),
-            right: slope_of(row.c, row.g),
+            left: Slope {
+                pitch: row.b,
+                width: row.f,
+            },
+            right: Slope {
+                pitch: row.c,
+                width: row.g,
+            },
             left_guard: byte(row.d),
             right_guard: byte(row.e),
         },
@@ -111,12 +96,12 @@ fn shape_of(row: Row) -> Shape {
             b1: row.b,
             b2: row.c,
             h: row.d,
-            slope: slope_of(row.f, row.e),
+            slope: Slope {
+                pitch: row.f,
+                width: row.e,
+            },
             guard: byte(row.g),
             stepped: kind == 10,
-        },
-        11 | 12 => Shape::Obstructed {
-            by: obstruction_of(row),
         },
         _ => Shape::Projection {
             h: row.b,
@@ -132,12 +117,11 @@ pub fn fits(kind: u32, before: u32, n: u32) -> bool
     requires { before < 20 }
 {
     match kind {
-        2 | 7 | 11 => n == before + 4,
+        2 | 7 => n == before + 4,
         3 | 6 | 10 => n == before + 7,
         4 => n % 4 == (before + 2) % 4,
         5 => n == before + 3,
         9 => n % 6 == before % 6,
-        12 => n == before + 5,
         _ => false,
     }
 }

@@ -22,7 +22,7 @@ module _ (spans : List ℕ) (v sk : ℕ) where
   -- the load at the valley, from its two slopes, its depth and its length
   pub valley_is :
       (left right : Slope) (valley : Valley) (a b w r : ℕ) → left ≡ slope_of spans a → a ≡ 2 * v + 1 → right ≡ slope_of spans b → b ≡ 2 * v + 2
-      → valley ≡ valley_of spans w → w ≡ v → r ≡ break_load parts (alone (peak 5 valley.h valley.b3 (left.width + right.width) sk))
+      → valley ≡ valley_of spans w → w ≡ v → r ≡ break_load parts (alone (peak valley.h valley.b3 (left.width + right.width) sk))
       → r ≡ break_load parts (alone (valley_peak sk spans v))
   unfolding valley_peak
   valley_is left right valley a b w r p p' q q' t t' e = rw (p, q, t, p', q', t') at e

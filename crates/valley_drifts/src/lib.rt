@@ -1,17 +1,30 @@
 // Exceptional drifts in the valleys of a multi-span roof (Annex B, B2).
 // These calls are for the crates above: what they require, accepted figures keep.
 ghost use Rattle.std.specs.Prelude.{◌≡◌, ℕ, suc, ◌+◌, ◌*◌, ◌≤◌, ◌<◌};
-ghost use Rattle.figures.specs.Bounds.{SlopeIn, MultiSpanIn};
+ghost use Rattle.figures.specs.Bounds.{Within, SlopeIn, MultiSpanIn};
 ghost use Rattle.figures.specs.RoofRules.{slope_of};
 ghost use Rattle.ramps.specs.Ramps.{ramp_of, RampIn};
 ghost use Rattle.rounding.specs.Load.{alone, break_load};
+ghost use Rattle.standard.specs.Drift.{peak};
 ghost use Rattle.standard.specs.Units.{parts, largest_part};
 ghost use Rattle.standard.specs.ValleyDrift.{valley_peak, valley_drift};
 
-use drift_peaks::peak_load;
 use figures::{SPAN_NUMBERS, slope_at, valley_at};
 use ramps::{Ramp, even, whole};
 use slope_ramps::widths_between;
+use standard::PARTS;
+
+// The smallest of 2h, 2 × b3 × sk/ls and 5 × sk in tenths, rounded up: each limit times ls, and one division.
+fn peak_load(h: u32, b3: u32, ls: u64, sk: u64) -> u64
+    requires { Within 1 200000 ls × (sk ≤ 25000) }
+    ensures { (result ≡ break_load parts (alone (peak h b3 ls sk))) × (result ≤ largest_part) }
+{
+    let depth = 2 * (h as u64) * ls;
+    let length = 2 * (b3 as u64) * sk;
+    let ground = 5 * sk * ls;
+    let smallest = rounding::least(depth, rounding::least(length, ground));
+    rounding::ceil_div(PARTS * smallest, ls)
+}
 
 // The load at valley v.
 fn valley_load(spans: &[u32; SPAN_NUMBERS], v: usize, sk: u64) -> u64
@@ -22,9 +35,8 @@ fn valley_load(spans: &[u32; SPAN_NUMBERS], v: usize, sk: u64) -> u64
     let right = slope_at(spans, 2 * v + 2);
     let valley = valley_at(spans, v);
     peak_load(
-        5,
         valley.h,
-        valley.b3 as u64,
+        valley.b3,
         left.width as u64 + right.width as u64,
         sk,
     )

@@ -5,8 +5,8 @@ use Rattle.code_rules.proofs.has_arrangement.Tie as tie
 kind-of-requires : tie.Need-kind-of-requires
 kind-of-requires c κs = search rules
 
-drifts-of-requires : tie.Need-drifts-of-requires
-drifts-of-requires c κs = search rules
+span-count-requires : tie.Need-span-count-requires
+span-count-requires c κs = search rules
 
 has-code-requires : tie.Need-has-code-requires
 has-code-requires c κs = search rules
@@ -16,4 +16,4 @@ returns c = cc
 
 pub has-arrangement-spec : {M : Type 1} → statement M
 has-arrangement-spec =
-    tie.close (tie.spec kind-of-requires drifts-of-requires has-code-requires returns)
+    tie.close (tie.spec kind-of-requires span-count-requires has-code-requires returns)

@@ -25,14 +25,14 @@ has-drifts-requires c κs = search rules
 is-persistent-requires-2 : tie.Need-is-persistent-requires-2
 is-persistent-requires-2 c κs = search rules
 
-names-drift-requires : tie.Need-names-drift-requires
-names-drift-requires c κs = search rules
+names-valley-requires : tie.Need-names-valley-requires
+names-valley-requires c κs = search rules
 
 returns-2 : tie.Need-returns-2
 unfolding exists_in
 returns-2 c =
     let b = c.before.before in
-    rw (c.before.is-persistent2.ensures, b.has-drifts.ensures, c.names-drift.ensures, ← b.before.before.is-accidental.ensures, b.before.if1.false)
+    rw (c.before.is-persistent2.ensures, b.has-drifts.ensures, c.names-valley.ensures, ← b.before.before.is-accidental.ensures, b.before.if1.false)
 
 pub has-code-spec : {M : Type 1} → statement M
 has-code-spec =
@@ -44,5 +44,5 @@ has-code-spec =
     returns
     has-drifts-requires
     is-persistent-requires-2
-    names-drift-requires
+    names-valley-requires
     returns-2)

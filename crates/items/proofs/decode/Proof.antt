@@ -84,32 +84,12 @@ returns-11 : tie.Need-returns-11
 unfolding by_kind
 returns-11 c = c.lower-item.ensures ∙ of_kind _ c.before.before.before.before.before.before.before.before.before.before.before.before.if1.false 10 c.before.if11.true
 
-parapet-item-requires : tie.Need-parapet-item-requires
-parapet-item-requires c κs = search rules
-
-returns-12 : tie.Need-returns-12
-unfolding by_kind
-returns-12 c =
-    let earlier = c.before.before.before.before.before.before.before in
-    c.parapet-item.ensures ∙ of_kind _ earlier.before.before.before.before.before.before.if1.false 11 c.before.if12.true
-
-small-projection-item-requires : tie.Need-small-projection-item-requires
-small-projection-item-requires c κs = search rules
-
-returns-13 : tie.Need-returns-13
-unfolding by_kind
-returns-13 c =
-    let earlier = c.before.before.before.before.before.before.before.before in
-    c.small-projection-item.ensures ∙ of_kind _ earlier.before.before.before.before.before.before.if1.false 12 c.before.if13.true
-
 refused-requires-2 : tie.Need-refused-requires-2
 refused-requires-2 c κs = search rules
 
-returns-14 : tie.Need-returns-14
-returns-14 c =
-    let twelve = c.before in
-    let eleven = twelve.before in
-    let ten = eleven.before in
+returns-12 : tie.Need-returns-12
+returns-12 c =
+    let ten = c.before in
     let nine = ten.before in
     let eight = nine.before in
     let seven = eight.before in
@@ -120,7 +100,7 @@ returns-14 c =
     let two = three.before in
     let one = two.before in
     let u = unknown _ _ one.if2.false two.if3.false three.if4.false four.if5.false five.if6.false
-    six.if7.false seven.if8.false eight.if9.false nine.if10.false ten.if11.false eleven.if12.false twelve.if13.false in
+    six.if7.false seven.if8.false eight.if9.false nine.if10.false ten.if11.false in
     c.refused2.ensures ∙ (u ∙ of_kind _ one.before.before.if1.false _ refl)
 
 pub decode-spec : {M : Type 1} → statement M
@@ -150,9 +130,5 @@ decode-spec =
     returns-10
     lower-item-requires
     returns-11
-    parapet-item-requires
-    returns-12
-    small-projection-item-requires
-    returns-13
     refused-requires-2
-    returns-14)
+    returns-12)

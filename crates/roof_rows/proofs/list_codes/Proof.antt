@@ -1,13 +1,12 @@
 use Rattle.text.specs.Text.{Wrote}
-use Rattle.figures.specs.RoofRules.{roof_of, kind_of, drifts_of}
+use Rattle.figures.specs.RoofRules.{roof_of, kind_of, span_count}
 use lib.ListN.{length}
-use mathlib.Core.Path.{◌≡◌, sym, ap, ◌∙◌}
+use mathlib.Core.Path.{◌≡◌, ap, ◌∙◌}
 use Prim.Native.Nat.{◌+◌, ◌*◌, ◌-◌, ◌≤◌}
-use Rattle.roof_rows.proofs.Counts.{drifts_few, rows_within, last_low, rows_to_last, rows_before}
+use Rattle.roof_rows.proofs.Counts.{spans_few, rows_within, last_low, rows_to_last}
 use Rattle.roof_rows.specs.Rows.{codes_rows, row_counts}
 use Rattle.roof_rows.proofs.Lines.{next_rows, next_count}
-use Rattle.standard.specs.Codes.{highest_code, last_code, codes_before}
-use Rattle.standard.proofs.Codes.{first_last}
+use Rattle.standard.specs.Codes.{highest_code, last_code}
 use Rattle.text.proofs.Writing.{then, none, wrote_as}
 use native.Mathlib.Omega.{arith}
 use borrow.Author.Rules.{rules}
@@ -25,42 +24,28 @@ decreases-loop national site shape spans item numbers₀ out₀ at kind count la
 
 last-is :
     (c : tie.After-last-code invariant-loop decreases-loop) → let a = c.before.before.before.before.args in
-    c.last_code.result ≡ last_code (kind_of a.shape) a.site.situation (drifts_of a.shape)
-last-is c = rw (c.before.before.kind-of.ensures, c.before.drifts-of.ensures) at c.last_code.ensures
+    c.last_code.result ≡ last_code (kind_of a.shape) a.site.situation (span_count a.shape)
+last-is c = rw (c.before.before.kind-of.ensures, c.before.span-count.ensures) at c.last_code.ensures
 
 last-in : (c : tie.After-last-code invariant-loop decreases-loop) → c.last_code.result ≤ highest_code
 last-in c =
     let s = c.before.before.before.before in
     rw (last-is c) (last_low _ _ (roof_of s.args.shape s.args.spans.now) s.requires.0)
 
-first-is :
-    (c : tie.After-codes-before invariant-loop decreases-loop) → let a = c.before.before.before.before.before.args in
-    c.codes-before.result ≡ codes_before (kind_of a.shape) a.site.situation
-first-is c = rw c.before.before.before.kind-of.ensures at c.codes-before.ensures
-
 loop-holds : tie.Need-loop-init invariant-loop decreases-loop
-loop-holds c =
-    let s = c.before.before.before.before.before in
-    let a = s.args in
-    let f = first-is c in
-    let none_yet = rows_before a.national a.site (roof_of a.shape a.spans.now) s.requires.0 a.item c.codes-before.result (omega (arith, f)) in
-    let inside : c.codes-before.result ≤ c.before.last_code.result =
-    rw (f, last-is c.before) (first_last (kind_of a.shape) a.site.situation (drifts_of a.shape)) in
-    (inside, omega arith, search rules, wrote_as (none _ _) (sym none_yet))
-
-codes-before-requires : tie.Need-codes-before-requires invariant-loop decreases-loop
-codes-before-requires c κs = search rules
+unfolding codes_rows row_counts
+loop-holds c = (omega arith, omega arith, search rules, none _ _)
 
 kind-of-requires : tie.Need-kind-of-requires invariant-loop decreases-loop
 kind-of-requires c κs = search rules
 
-drifts-of-requires : tie.Need-drifts-of-requires invariant-loop decreases-loop
-drifts-of-requires c κs = search rules
+span-count-requires : tie.Need-span-count-requires invariant-loop decreases-loop
+span-count-requires c κs = search rules
 
 last-code-requires : tie.Need-last-code-requires invariant-loop decreases-loop
 last-code-requires c κs =
     let s = c.before.before.before in
-    rw c.drifts-of.ensures (drifts_few _ _ (roof_of s.args.shape s.args.spans.now) s.requires.0)
+    rw c.span-count.ensures (spans_few _ _ (roof_of s.args.shape s.args.spans.now) s.requires.0)
 
 add-code : tie.Need-overflow-add-code invariant-loop decreases-loop
 add-code c = search rules
@@ -68,14 +53,14 @@ add-code c = search rules
 list-code-requires : tie.Need-list-code-requires invariant-loop decreases-loop
 list-code-requires c κs =
     let g = c.before.before.before in
-    let s = g.before.before.before.before.before.before in
+    let s = g.before.before.before.before.before in
     let l = g.loop in
     let a = s.args in
     let r = roof_of a.shape a.spans.now in
     let n = next_count a.national a.site r 0 l.code in
-    let w = rows_within a.national a.site r s.requires.0 (l.code + 1) (omega (arith, last-in g.before.before)) in
-    let b = g.before.before.before in
-    ((b.before.kind-of.ensures, b.drifts-of.ensures), (s.requires.0, omega (arith, n, w, l.invariant.1, l.invariant.2, s.requires.1)))
+    let w = rows_within a.national a.site r s.requires.0 (l.code + 1) (omega (arith, last-in g.before)) in
+    let b = g.before.before in
+    ((b.before.kind-of.ensures, b.span-count.ensures), (s.requires.0, omega (arith, n, w, l.invariant.1, l.invariant.2, s.requires.1)))
 
 loop-less : tie.Need-loop-smaller invariant-loop decreases-loop
 loop-less c = search rules
@@ -85,7 +70,7 @@ loop-again c =
     let k = c.before.before in
     let g = k.before.before.before.before in
     let l = g.loop in
-    let a = g.before.before.before.before.before.before.args in
+    let a = g.before.before.before.before.before.args in
     let r = roof_of a.shape a.spans.now in (
       omega arith,
       omega (arith, next_count a.national a.site r 0 l.code, k.List-code.ensures.1, l.invariant.1),
@@ -99,7 +84,7 @@ same_length c = search rules
 returns : tie.Need-returns invariant-loop decreases-loop
 returns c =
     let l = c.before.loop in
-    let b = c.before.before.before in
+    let b = c.before.before in
     let s = b.before.before.before.before in
     let r = roof_of s.args.shape s.args.spans.now in
     let e : l.code ≡ b.last_code.result = omega arith in
@@ -115,9 +100,8 @@ list-codes-spec =
     invariant-loop
     decreases-loop
     kind-of-requires
-    drifts-of-requires
+    span-count-requires
     last-code-requires
-    codes-before-requires
     loop-holds
     add-code
     list-code-requires

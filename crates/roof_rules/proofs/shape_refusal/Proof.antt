@@ -39,12 +39,6 @@ enum-known-shape-6 c = search rules
 projection-refusal-requires : tie.Need-projection-refusal-requires
 projection-refusal-requires c κs = search rules
 
-enum-known-shape-7 : tie.Need-enum-known-shape-7
-enum-known-shape-7 c = search rules
-
-obstruction-refusal-requires : tie.Need-obstruction-refusal-requires
-obstruction-refusal-requires c κs = search rules
-
 returns : tie.Need-returns
 unfolding shape_refusal
 returns c = rw (c.monopitch-refusal.ensures, c.before.before.shape.given.1)
@@ -69,10 +63,6 @@ returns-6 : tie.Need-returns-6
 unfolding shape_refusal
 returns-6 c = rw (c.projection-refusal.ensures, c.before.before.shape6.given.1)
 
-returns-7 : tie.Need-returns-7
-unfolding shape_refusal
-returns-7 c = rw (c.obstruction-refusal.ensures, c.before.before.shape7.given.1)
-
 pub shape-refusal-spec : {M : Type 1} → statement M
 shape-refusal-spec =
     tie.close
@@ -89,12 +79,9 @@ shape-refusal-spec =
     abutting-refusal-requires
     enum-known-shape-6
     projection-refusal-requires
-    enum-known-shape-7
-    obstruction-refusal-requires
     returns
     returns-2
     returns-3
     returns-4
     returns-5
-    returns-6
-    returns-7)
+    returns-6)

@@ -32,9 +32,6 @@ enum-told-3 c = search rules
 enum-told-4 : tie.Need-enum-told-4
 enum-told-4 c = search rules
 
-enum-told-5 : tie.Need-enum-told-5
-enum-told-5 c = search rules
-
 returns-4 : tie.Need-returns-4
 returns-4 c = no_other _ _ _ _ c.before.before.shape.given.1 c.if1.false
 
@@ -57,10 +54,6 @@ returns-9 : tie.Need-returns-9
 unfolding slope_at
 returns-9 c = rw c.enum-told4.given.1
 
-returns-10 : tie.Need-returns-10
-unfolding slope_at
-returns-10 c = rw c.enum-told5.given.1
-
 pub slope-of-spec : {M : Type 1} → statement M
 slope-of-spec =
     tie.close
@@ -74,11 +67,9 @@ slope-of-spec =
     enum-told-2
     enum-told-3
     enum-told-4
-    enum-told-5
     returns-4
     returns-5
     returns-6
     returns-7
     returns-8
-    returns-9
-    returns-10)
+    returns-9)

@@ -32,29 +32,21 @@ cast-peak-load c = search rules
 cast-peak-load-2 : tie.Need-overflow-cast-peak-load-2
 cast-peak-load-2 c = search rules
 
-cast-peak-load-3 : tie.Need-overflow-cast-peak-load-3
-cast-peak-load-3 c = search rules
-
 add-peak-load : tie.Need-overflow-add-peak-load
 add-peak-load c = search rules
 
 peak-load-requires : tie.Need-peak-load-requires
 peak-load-requires c κs =
-    let r = c.before.before.before.before in
+    let r = c.before.before.before in
     let l = r.before in
     let p = l.before.requires in
     let left : SlopeIn l.slope-at.result = rw l.slope-at.ensures (p.1 _ (omega arith)) in
     let right : SlopeIn r.slope-at2.result = rw r.slope-at2.ensures (p.1 _ (omega arith)) in
-    record {
-      limit = omega arith;
-      width = omega arith;
-      length = record { low = omega (arith, left.width.low); high = omega (arith, left.width.high, right.width.high) };
-      ground = p.2;
-    }
+    (record { low = omega (arith, left.width.low); high = omega (arith, left.width.high, right.width.high) }, p.2)
 
 returns : tie.Need-returns
 returns c =
-    let v = c.before.before.before.before in
+    let v = c.before.before.before in
     let r = v.before in
     let a = r.before.before.args in
     let e = c.peak-load.ensures in
@@ -76,7 +68,6 @@ valley-load-spec =
     valley-at-requires
     cast-peak-load
     cast-peak-load-2
-    cast-peak-load-3
     add-peak-load
     peak-load-requires
     returns)

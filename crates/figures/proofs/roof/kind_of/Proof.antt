@@ -26,12 +26,6 @@ returns-2 c = rw (c.before.before.shape2.given.1, c.if2.true)
 enum-told-4 : tie.Need-enum-told-4
 enum-told-4 c = search rules
 
-enum-known-shape-3 : tie.Need-enum-known-shape-3
-enum-known-shape-3 c = search rules
-
-obstruction-kind-requires : tie.Need-obstruction-kind-requires
-obstruction-kind-requires c κs = search rules
-
 returns-3 : tie.Need-returns-3
 returns-3 c = search rules
 
@@ -50,9 +44,6 @@ returns-7 c = rw (c.before.before.shape2.given.1, c.if2.false)
 returns-8 : tie.Need-returns-8
 returns-8 c = search rules
 
-returns-9 : tie.Need-returns-9
-returns-9 c = rw c.before.before.shape3.given.1 c.obstruction-kind.ensures
-
 pub kind-of-spec : {M : Type 1} → statement M
 kind-of-spec =
     tie.close
@@ -65,12 +56,9 @@ kind-of-spec =
     enum-known-shape-2
     returns-2
     enum-told-4
-    enum-known-shape-3
-    obstruction-kind-requires
     returns-3
     returns-4
     returns-5
     returns-6
     returns-7
-    returns-8
-    returns-9)
+    returns-8)

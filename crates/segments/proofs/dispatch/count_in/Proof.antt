@@ -15,7 +15,7 @@ enum-known-shape : tie.Need-enum-known-shape
 enum-known-shape c = search rules
 
 spans-count-requires : tie.Need-spans-count-requires
-spans-count-requires c κs = (known_in c.before.shape.given.1 _ c.before.before.before.requires.1).count
+spans-count-requires c κs = (known_in c.before.shape.given.1 _ c.before.before.before.requires.1).count.high
 
 enum-known-shape-2 : tie.Need-enum-known-shape-2
 enum-known-shape-2 c = search rules
@@ -58,12 +58,6 @@ cast-projection-count-3 c = search rules
 projection-count-requires : tie.Need-projection-count-requires
 projection-count-requires c κs = (known_in c.before.shape4.given.1 _ c.before.before.before.requires.1).height.high
 
-enum-known-shape-5 : tie.Need-enum-known-shape-5
-enum-known-shape-5 c = search rules
-
-obstruction-count-requires : tie.Need-obstruction-count-requires
-obstruction-count-requires c κs = known_in c.before.shape5.given.1 _ c.before.before.before.requires.1
-
 returns : tie.Need-returns
 unfolding count_in
 returns c = (rw c.enum_told.given.1, omega arith)
@@ -88,10 +82,6 @@ returns-6 : tie.Need-returns-6
 unfolding count_in
 returns-6 c = rw c.before.before.shape4.given.1 c.projection-count.ensures
 
-returns-7 : tie.Need-returns-7
-unfolding count_in
-returns-7 c = rw c.before.before.shape5.given.1 c.obstruction-count.ensures
-
 pub count-in-spec : {M : Type 1} → statement M
 count-in-spec =
     tie.close
@@ -113,12 +103,9 @@ count-in-spec =
     cast-projection-count-2
     cast-projection-count-3
     projection-count-requires
-    enum-known-shape-5
-    obstruction-count-requires
     returns
     returns-2
     returns-3
     returns-4
     returns-5
-    returns-6
-    returns-7)
+    returns-6)

@@ -78,15 +78,6 @@ add-result-2 c = search rules
 mul-result-6 : tie.Need-overflow-mul-result-6
 mul-result-6 c = search rules
 
-enum-known-shape-7 : tie.Need-enum-known-shape-7
-enum-known-shape-7 c = search rules
-
-obstruction-end-requires : tie.Need-obstruction-end-requires
-obstruction-end-requires c κs = search rules
-
-mul-result-7 : tie.Need-overflow-mul-result-7
-mul-result-7 c = omega (arith, c.obstruction-end.ensures.1)
-
 returns : tie.Need-returns
 unfolding end_in
 returns c = rw c.before.before.shape.given.1
@@ -110,10 +101,6 @@ returns-5 c = rw c.before.shape5.given.1
 returns-6 : tie.Need-returns-6
 unfolding end_in
 returns-6 c = rw c.before.shape6.given.1
-
-returns-7 : tie.Need-returns-7
-unfolding end_in
-returns-7 c = rw (c.before.before.shape7.given.1, c.obstruction-end.ensures.0)
 
 pub end-spec : {M : Type 1} → statement M
 end-spec =
@@ -143,13 +130,9 @@ end-spec =
     cast-result-7
     add-result-2
     mul-result-6
-    enum-known-shape-7
-    obstruction-end-requires
-    mul-result-7
     returns
     returns-2
     returns-3
     returns-4
     returns-5
-    returns-6
-    returns-7)
+    returns-6)

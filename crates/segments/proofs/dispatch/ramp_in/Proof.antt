@@ -86,16 +86,6 @@ projection-ramp-requires c κs =
     let e = c.before.shape6.given.1 in
     (known_in e _ p.1, known_index e _ _ _ p.3, p.2)
 
-enum-known-shape-7 : tie.Need-enum-known-shape-7
-enum-known-shape-7 c = search rules
-
-obstruction-ramp-requires : tie.Need-obstruction-ramp-requires
-unfolding count_in
-obstruction-ramp-requires c κs =
-    let p = c.before.before.before.requires in
-    let e = c.before.shape7.given.1 in
-    (known_in e _ p.1, p.2.sk.high, known_index e _ _ _ p.3)
-
 returns : tie.Need-returns
 unfolding stretch_in monopitch
 returns c = rw c.before.before.shape.given.1 c.slope-ramp.ensures
@@ -119,10 +109,6 @@ returns-5 c = rw c.before.before.shape5.given.1 c.abutting-ramp.ensures
 returns-6 : tie.Need-returns-6
 unfolding stretch_in
 returns-6 c = rw c.before.before.shape6.given.1 c.projection-ramp.ensures
-
-returns-7 : tie.Need-returns-7
-unfolding stretch_in
-returns-7 c = rw c.before.before.shape7.given.1 c.obstruction-ramp.ensures
 
 pub ramp-in-spec : {M : Type 1} → statement M
 ramp-in-spec =
@@ -148,12 +134,9 @@ ramp-in-spec =
     cast-projection-ramp-2
     cast-projection-ramp-3
     projection-ramp-requires
-    enum-known-shape-7
-    obstruction-ramp-requires
     returns
     returns-2
     returns-3
     returns-4
     returns-5
-    returns-6
-    returns-7)
+    returns-6)

@@ -1,42 +1,39 @@
-use Prim.Native.Nat.{◌-◌, ◌*◌, ◌<◌}
+use Prim.Native.Nat.{◌*◌, ◌<◌}
 use mathlib.Core.Bool.{true, false}
 use mathlib.Core.Path.{◌≡◌, sym, ◌∙◌}
 use native.Mathlib.Omega.{arith}
 use Rattle.figures.proofs.Laws.{within_in}
-use Rattle.standard.specs.Codes.{names_drift}
+use Rattle.standard.specs.Codes.{names_valley}
 use Rattle.standard.specs.ValleyDrift.{spans_stretch, spans_count}
 use Rattle.standard.proofs.ValleyDrift.{named_in}
 use borrow.Author.Rules.{rules}
 use Rattle.segments.proofs.spans.spans_ramp.Statement.{statement}
 use Rattle.segments.proofs.spans.spans_ramp.Tie as tie
 
-named : (c : tie.Then1) → names_drift (c.before.before.args.count - 1) c.before.before.args.code ≡ true
-named c = sym c.before.names-drift.ensures ∙ c.if1.true
+named : (c : tie.Then1) → names_valley c.before.before.args.count c.before.before.args.code ≡ true
+named c = sym c.before.names-valley.ensures ∙ c.if1.true
 
-unnamed : (c : tie.Else1) → names_drift (c.before.before.args.count - 1) c.before.before.args.code ≡ false
-unnamed c = sym c.before.names-drift.ensures ∙ c.if1.false
+unnamed : (c : tie.Else1) → names_valley c.before.before.args.count c.before.before.args.code ≡ false
+unnamed c = sym c.before.names-valley.ensures ∙ c.if1.false
 
 slope-index : (c : tie.Else1) → c.before.before.args.i < 2 * c.before.before.args.count
 unfolding spans_count
 slope-index c = rw (unnamed c) at c.before.before.requires.1
 
-sub-names-drift : tie.Need-overflow-sub-names-drift
-sub-names-drift c = omega (arith, c.requires.0.count.low)
+names-valley-requires : tie.Need-names-valley-requires
+names-valley-requires c κs = search rules
 
-names-drift-requires : tie.Need-names-drift-requires
-names-drift-requires c κs = search rules
-
-drift-named-requires : tie.Need-drift-named-requires
-drift-named-requires c κs = omega (arith, within_in 31 _ c.before.before.args.code (named c))
+valley-named-requires : tie.Need-valley-named-requires
+valley-named-requires c κs = omega (arith, within_in 31 _ c.before.before.args.code (named c))
 
 valley-ramp-requires : tie.Need-valley-ramp-requires
 valley-ramp-requires c κs =
     let p = c.before.before.before.requires in
-    (p.0, rw c.drift-named.ensures (named_in _ _ (named c.before)), omega (arith, p.2.sk.high))
+    (p.0, rw c.valley-named.ensures (named_in _ _ (named c.before)), omega (arith, p.2.sk.high))
 
 returns : tie.Need-returns
 unfolding spans_stretch
-returns c = rw (named c.before.before, ← c.before.drift-named.ensures) c.valley-ramp.ensures
+returns c = rw (named c.before.before, ← c.before.valley-named.ensures) c.valley-ramp.ensures
 
 multi-span-ramp-requires : tie.Need-multi-span-ramp-requires
 multi-span-ramp-requires c κs =
@@ -52,9 +49,8 @@ pub spans-ramp-spec : {M : Type 1} → statement M
 spans-ramp-spec =
     tie.close
     (tie.spec
-    sub-names-drift
-    names-drift-requires
-    drift-named-requires
+    names-valley-requires
+    valley-named-requires
     valley-ramp-requires
     returns
     multi-span-ramp-requires
