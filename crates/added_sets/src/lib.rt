@@ -1,4 +1,6 @@
 // A national set added to a store that the caller lends. The call takes any numbers.
+#![tactic(auto)]
+
 ghost use Rattle.std.specs.Prelude.{◌≡◌, ◌+◌, ◌≤◌, ◌<◌, length};
 ghost use Rattle.added_sets.specs.Adding.{add_refusal, with_set, add_answer, added_count, store_after};
 ghost use Rattle.figures.specs.Store.{set_count, set_start, set_at, earliest_day, store_refusal};
@@ -9,7 +11,7 @@ use national_sets::{
 };
 
 // What adding a set answers: the new count, or a refusal, whose number is 18.
-#[derive(Drop)]
+#[derive(Clone, Copy)]
 pub enum Added {
     Count(u32),
     NotAdded,

@@ -1,4 +1,6 @@
 // Answers as numbers of 32 bits.
+#![tactic(auto)]
+
 ghost use Rattle.std.specs.Prelude.{◌≡◌, ◌≤◌, min};
 ghost use Rattle.roof_arrangements.specs.Arrangement.{made_means, made_count};
 ghost use Rattle.local_forces.specs.Answers.{force_means};

@@ -1,4 +1,6 @@
 // The arrangements of a roof under snow: the segments of one code, written into a slice that the caller lends. The call takes any figures.
+#![tactic(auto)]
+
 ghost use Rattle.std.specs.Prelude.{◌≡◌, length, ◌≤◌};
 ghost use Rattle.roof_arrangements.specs.Arrangement.{made_means, made_count, contents};
 ghost use Rattle.standard.specs.Answers.{national_for, make_answer};

@@ -1,16 +1,18 @@
 // Who reads a sheet, and the most that a sheet of each may have.
+#![tactic(auto)]
+
 ghost use Rattle.std.specs.Prelude.{◌≡◌};
 ghost use Rattle.ceilings.specs.Ceilings.{ceiling_of};
 
 // The callers of the reader: the terminals and the quote desk.
-#[derive(Drop)]
+#[derive(Clone, Copy)]
 pub enum Caller {
     Terminal,
     Desk,
 }
 
 // The most items and bytes that a caller's sheets may have.
-#[derive(Drop)]
+#[derive(Clone, Copy)]
 pub struct Ceiling {
     pub items: usize,
     pub bytes: usize,

@@ -1,4 +1,6 @@
 // Following upper items from one of a sheet's items: whether it comes back.
+#![tactic(auto)]
+
 ghost use Rattle.std.specs.Prelude.{◌≡◌, ◌<◌};
 ghost use Rattle.circles.specs.Following.{upper_in, comes_back};
 

@@ -1,4 +1,6 @@
 // The factor on an arrangement's loads, and whether a roof has the arrangement.
+#![tactic(auto)]
+
 ghost use Rattle.std.specs.Prelude.{◌≡◌, ◌≤◌};
 ghost use Rattle.figures.specs.Bounds.{SiteIn};
 ghost use Rattle.figures.specs.RoofRules.{kind_of, span_count};

@@ -1,4 +1,6 @@
 // Which arrangements and local forces exist, by the documents' numbers.
+#![tactic(auto)]
+
 ghost use Rattle.std.specs.Prelude.{◌≡◌, ◌≤◌};
 ghost use Rattle.standard.specs.Codes.{persistent_by, drifts_in, accidental, base_code, names_valley, valley_named, exists_in, last_code, forces_in};
 

@@ -1,17 +1,18 @@
 // Counts of answers: those compared in the lower half, and those that differ in the upper half.
+#![tactic(auto)]
 
 // One answer that differs.
 pub const DIFFERENT: u64 = 4_294_967_296;
 
 // Stores of national sets accepted, and stores refused.
-#[derive(Drop)]
+#[derive(Clone, Copy)]
 pub struct Stores {
     pub accepted: u64,
     pub refused: u64,
 }
 
 // National sets added, and sets refused.
-#[derive(Drop)]
+#[derive(Clone, Copy)]
 pub struct Sets {
     pub added: u64,
     pub refused: u64,

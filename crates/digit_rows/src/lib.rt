@@ -1,4 +1,6 @@
 // The row of a segment from digits that are held in words. Eight bytes are written at a time, and those of them that are no text are written over next.
+#![tactic(auto)]
+
 ghost use Rattle.std.specs.Prelude.{◌+◌, ◌≤◌, ◌<◌, ◌≡◌, [], ◌∷◌, ◌++◌, length};
 ghost use Rattle.text.specs.Text.{field, row};
 ghost use Rattle.digits.specs.Words.{IsTable};
@@ -10,14 +12,14 @@ use digits::{Digits, digits_of, long_first, put_word, short_first};
 pub const LONG: u32 = 100_000_000;
 
 // A number below 100,000,000 with its digits.
-#[derive(Drop)]
+#[derive(Clone, Copy)]
 pub struct Held {
     pub number: u32,
     pub digits: Digits,
 }
 
 // The place behind the last row, and the last end and load.
-#[derive(Drop)]
+#[derive(Clone, Copy)]
 pub struct Rows {
     pub at: usize,
     pub end: Held,

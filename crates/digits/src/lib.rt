@@ -1,11 +1,13 @@
 // The digits of a number in a word.
+#![tactic(auto)]
+
 ghost use Rattle.std.specs.Prelude.{◌+◌, ◌*◌, ◌/◌, ◌%◌, ◌≤◌, ◌<◌, ◌≡◌, length};
 ghost use Rattle.std.proofs.lemmas.List.Edits.{sets};
 ghost use Rattle.text.specs.Text.{decimal};
 ghost use Rattle.digits.specs.Words.{bytes_of, over, pack, padded, pair_word, Means, IsTable};
 
 // The decimal of a number below 100,000,000: `len` bytes of `word`, the lowest first.
-#[derive(Drop)]
+#[derive(Clone, Copy)]
 pub struct Digits {
     pub word: u64,
     pub len: usize,

@@ -1,5 +1,7 @@
 // The ramps of roofs with drifts: cylindrical roofs, lower roofs at a taller one, and projections.
 // These calls are for the crates above: what they require, accepted figures keep.
+#![tactic(auto)]
+
 mod abutting;
 mod cylindrical;
 mod projection;

@@ -1,4 +1,6 @@
 // The refusal of a store, a site and a roof together: 18, the site's 6, 7 and 19, the roof's 8, 9 and 10.
+#![tactic(auto)]
+
 ghost use Rattle.std.specs.Prelude.{◌≡◌};
 ghost use Rattle.figures.specs.Refusals.{dated_refusal, figures_refusal};
 ghost use Rattle.figures.specs.Store.{store_refusal};

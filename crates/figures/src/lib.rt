@@ -1,5 +1,7 @@
 // The figures of a site and of a roof and the national ones, by value; the definitions of the value rules on them, refusals 6 to
 // 10, 18 and 19, stand here too.
+#![tactic(auto)]
+
 mod national;
 mod roof;
 mod rules;

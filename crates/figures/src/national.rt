@@ -3,7 +3,7 @@ ghost use Rattle.std.specs.Prelude.{◌≡◌};
 ghost use Rattle.figures.specs.National.{recommended_figures};
 
 // The upper value of μ3 and the range of μw in hundredths, and the range of drift lengths of a roof abutting a taller one in mm.
-#[derive(Drop)]
+#[derive(Clone, Copy)]
 pub struct National {
     pub arch: u32,
     pub low: u32,
@@ -13,7 +13,7 @@ pub struct National {
 }
 
 // A set: its first day, and the figures in use from it on.
-#[derive(Drop)]
+#[derive(Clone, Copy)]
 pub struct NationalSet {
     pub day: u32,
     pub figures: National,

@@ -6,14 +6,14 @@ ghost use Rattle.figures.specs.RoofRules.{kind_of, span_count};
 pub const SPAN_NUMBERS: usize = 94;
 
 // A slope: its pitch in tenths of a degree, and its plan width in mm.
-#[derive(Drop)]
+#[derive(Clone, Copy)]
 pub struct Slope {
     pub pitch: u32,
     pub width: u32,
 }
 
 // A valley: its depth and its length, b3 of Annex B, in mm.
-#[derive(Drop)]
+#[derive(Clone, Copy)]
 pub struct Valley {
     pub h: u32,
     pub b3: u32,
@@ -21,7 +21,7 @@ pub struct Valley {
 
 // A lower roof as its item has it: its width b2 and its step h, the index of the upper item that it stands at, and the side
 // of that item that is adjacent, 0 left and 1 right.
-#[derive(Drop)]
+#[derive(Clone, Copy)]
 pub struct LowerRoof {
     pub b2: u32,
     pub h: u32,
@@ -32,7 +32,7 @@ pub struct LowerRoof {
 // The shape of a roof, kinds 2 to 7, 9 and 10. Lengths in mm; a guard is 0 or 1. A multi-span roof with drifts in its
 // valleys by Annex B is of kind 9, one without them of kind 4. A lower roof whose upper figures come from another item of
 // its sheet is stepped, of kind 10; one that has them in its own item is of kind 6.
-#[derive(Drop)]
+#[derive(Clone, Copy)]
 pub enum Shape {
     Monopitch {
         slope: Slope,
@@ -69,7 +69,7 @@ pub enum Shape {
 
 // A roof. The slopes of a multi-span roof stand from left to right, two numbers each: pitch and width. Behind the place of
 // 32 slopes stand its valleys, two numbers each: depth and length. What a roof hasn't are zeros.
-#[derive(Drop)]
+#[derive(Clone, Copy)]
 pub struct Roof {
     pub shape: Shape,
     pub spans: [u32; SPAN_NUMBERS],

@@ -1,4 +1,6 @@
 // The rows of a roof's local forces, slope by slope. For the crates above, which have accepted figures.
+#![tactic(auto)]
+
 ghost use Rattle.std.specs.Prelude.{◌≡◌, ◌+◌, ◌≤◌, length};
 ghost use Rattle.figures.specs.SiteRules.{site_refusal};
 ghost use Rattle.force_rows.specs.Rows.{force_row, slope_rows, force_rows};

@@ -3,14 +3,14 @@ ghost use Rattle.std.specs.Prelude.{◌≡◌, ◌≤◌};
 ghost use Rattle.ground_loads.specs.Map.{row_of};
 
 // How the load rises with the altitude A: the zone's load times 1 + (A/divisor)², or the zone's load and 1,000 A/divisor.
-#[derive(Drop)]
+#[derive(Clone, Copy)]
 pub enum Form {
     Square,
     Linear,
 }
 
 // A row: zone Z has factor × Z + plus − minus, in N/m²; the altitude is taken over the divisor, in the row's form.
-#[derive(Drop)]
+#[derive(Clone, Copy)]
 pub struct Row {
     pub factor: u64,
     pub plus: u64,

@@ -1,5 +1,7 @@
 // What the calls on an item of a sheet answer, as numbers of 32 bits, by what was found there. No rule that the finding passed is
 // tested again.
+#![tactic(auto)]
+
 ghost use Rattle.std.specs.Prelude.{◌≡◌, length};
 ghost use Rattle.sheet_figures.specs.Find.{FoundAccepted};
 ghost use Rattle.item_answers.specs.Calls.{make_code, slice_after, load_code, overhang_code, guard_code};

@@ -1,4 +1,6 @@
 // The forms that items of every kind share: what an item says, its refusal by number, and a slope among its bytes.
+#![tactic(auto)]
+
 ghost use Rattle.std.specs.Prelude.{◌≡◌, ◌+◌, ◌≤◌, length};
 ghost use Rattle.item_forms.specs.Forms.{item_alone, malformed, slope_at};
 
@@ -12,7 +14,7 @@ pub const ITEM_LENGTH: u8 = 4;
 
 // What an item's bytes say: a site, the shape of a roof, a lower roof whose shape an upper item completes, or the number
 // of their refusal.
-#[derive(Drop)]
+#[derive(Clone, Copy)]
 pub enum Item {
     SiteItem(SiteData),
     RoofItem(Shape),
@@ -21,7 +23,7 @@ pub enum Item {
 }
 
 // An item with the spans of a multi-span roof beside it, as a roof has them; any other item has zeros there.
-#[derive(Drop)]
+#[derive(Clone, Copy)]
 pub struct Decoded {
     pub item: Item,
     pub spans: [u32; SPAN_NUMBERS],

@@ -1,4 +1,6 @@
 // The first rule that an item breaks in its place: the refusal of its form, 5, then the value rules.
+#![tactic(auto)]
+
 ghost use Rattle.std.specs.Prelude.{◌≡◌};
 ghost use Rattle.figures.specs.Store.{store_refusal};
 ghost use Rattle.items.specs.Items.{content};

@@ -1,4 +1,6 @@
 // What an item's bytes say: a site, the shape of a roof with its spans, or the number by which their form is refused.
+#![tactic(auto)]
+
 ghost use Rattle.std.specs.Prelude.{◌≡◌};
 ghost use Rattle.item_forms.specs.Forms.{is_lower};
 ghost use Rattle.items.specs.Items.{content};

@@ -1,4 +1,6 @@
 // The value rules on a roof, refusals 8, 9 and 10: one function a kind. Those of lower roofs stand in `lower_rules`.
+#![tactic(auto)]
+
 ghost use Rattle.std.specs.Prelude.{◌≡◌};
 ghost use Rattle.figures.specs.RoofRules.{monopitch_refusal, pitched_refusal, multi_span_refusal, cylindrical_refusal, projection_refusal};
 

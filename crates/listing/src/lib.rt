@@ -1,4 +1,6 @@
 // The listing of a sheet: its text, written into bytes that the caller lends.
+#![tactic(auto)]
+
 ghost use Rattle.std.specs.Prelude.{◌≡◌, ◌≤◌, length};
 ghost use Rattle.listing.specs.Listing.{listing_by, list_room, listed, bytes_after, Free};
 ghost use Rattle.ceilings.specs.Ceilings.{terminals};

@@ -1,4 +1,6 @@
 // Little-endian numbers at a position of a slice of bytes. These calls are for the crates above: each asks that its bytes are there.
+#![tactic(auto)]
+
 ghost use Rattle.std.specs.Prelude.{◌≡◌, ◌+◌, ◌<◌, length};
 ghost use Rattle.little_endian.specs.Numbers.{le16, le32};
 

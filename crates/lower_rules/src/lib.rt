@@ -1,4 +1,6 @@
 // The value rules on a lower flat roof, kinds 6 and 10: refusal 8.
+#![tactic(auto)]
+
 ghost use Rattle.std.specs.Prelude.{◌≡◌};
 ghost use Rattle.figures.specs.RoofRules.{widest_upper, abutting_refusal, lower_refusal};
 

@@ -1,4 +1,6 @@
 // A place on the map, with refusals 7, 14 and 15, and the site that an item's data are.
+#![tactic(auto)]
+
 mod map;
 mod sites;
 

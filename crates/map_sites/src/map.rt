@@ -13,7 +13,7 @@ const REGION_OR_ZONE: u8 = 14;
 const MAP_LOAD: u8 = 15;
 
 // A ground load in N/m², or the number of a refusal.
-#[derive(Drop)]
+#[derive(Clone, Copy)]
 pub enum GroundLoad {
     Load(u32),
     Refused(u8),

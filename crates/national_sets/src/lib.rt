@@ -1,5 +1,7 @@
 // The store of national sets that a caller lends: 193 numbers, the count and then six a set. Its refusal, 18, for any numbers; a set by
 // its place, and whether it may stand there, for the crates above.
+#![tactic(auto)]
+
 ghost use Rattle.std.specs.Prelude.{◌≡◌, ◌+◌, ◌≤◌, ◌<◌, length};
 ghost use Rattle.figures.specs.National.{figures_sound};
 ghost use Rattle.figures.specs.Store.{set_start, set_from, set_at, set_sound, sets_sound, store_refusal};

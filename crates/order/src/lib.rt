@@ -1,4 +1,6 @@
 // The order in which the roofs of a sheet are listed: every upper roof before what stands below it.
+#![tactic(auto)]
+
 ghost use Rattle.std.specs.Prelude.{◌≡◌, ◌++◌, ◌-◌, ◌≤◌, length, drop};
 ghost use Rattle.circles.specs.Following.{upper_in};
 ghost use Rattle.order.specs.Order.{marked_in, ready, next_roof, order, up_to};

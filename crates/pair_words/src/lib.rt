@@ -1,12 +1,14 @@
 // A pair as one word of 32 bits: its four bytes put together, the offset and the length split from it, and joined again.
 // Every call takes any bytes, any word and any pair.
+#![tactic(auto)]
+
 ghost use Rattle.std.specs.Prelude.{◌≡◌};
 ghost use Rattle.pair_words.specs.Words.{word_of, join, split};
 
 use little_endian::byte_to_u32;
 
 // A pair: where an item begins in the sheet, and how many bytes it has.
-#[derive(Drop)]
+#[derive(Clone, Copy)]
 pub struct Pair {
     pub offset: u16,
     pub size: u16,

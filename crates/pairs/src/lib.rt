@@ -1,4 +1,6 @@
 // The count and the pairs of a sheet, and the verdict on them: refusals 1 and 2.
+#![tactic(auto)]
+
 ghost use Rattle.std.specs.Prelude.{◌≡◌, ◌+◌, ◌*◌, ◌≤◌, length};
 ghost use Rattle.pairs.specs.Pairs.{count, offset, size, pair_number, in_turn, pairs_verdict, part, PartIn, verdict_means};
 
@@ -12,7 +14,7 @@ const SHEET_LIMITS: u8 = 1;
 const PAIR: u8 = 2;
 
 // What the rules say of a sheet: accepted with its count, or the number and the item of the first broken rule.
-#[derive(Drop)]
+#[derive(Clone, Copy)]
 pub enum Verdict {
     Accepted(usize),
     Refused(u8, usize),

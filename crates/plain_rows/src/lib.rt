@@ -1,4 +1,6 @@
 // Rows of segments, number after number, and the two lines of words.
+#![tactic(auto)]
+
 mod words;
 
 ghost use Rattle.std.specs.Prelude.{◌+◌, ◌*◌, ◌≤◌, length};

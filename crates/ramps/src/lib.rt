@@ -1,4 +1,6 @@
 // A segment's ramp, with its break loads rounded, and the reading in it.
+#![tactic(auto)]
+
 ghost use Rattle.std.specs.Prelude.{◌≡◌, ◌≤◌};
 ghost use Rattle.ramps.specs.Ramps.{RampIn, read_ramp};
 ghost use Rattle.standard.specs.Units.{largest_load};
@@ -7,7 +9,7 @@ use standard::PARTS;
 
 // A part of an uncut ramp: its length on the roof, how far into the ramp it begins, the ramp's whole length, and the ramp's
 // break loads. Lengths in quarter millimetres, loads in tenths of a N/m².
-#[derive(Drop)]
+#[derive(Clone, Copy)]
 pub struct Ramp {
     pub extent: u64,
     pub skip: u64,

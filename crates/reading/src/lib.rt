@@ -1,4 +1,6 @@
 // The load at a station of a roof under one arrangement. The call takes any figures.
+#![tactic(auto)]
+
 ghost use Rattle.std.specs.Prelude.{◌≡◌};
 ghost use Rattle.roof_readings.specs.Reading.{reading_means, distance_of};
 ghost use Rattle.standard.specs.Answers.{national_for, load_answer};

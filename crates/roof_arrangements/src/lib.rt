@@ -1,4 +1,6 @@
 // The arrangements of a roof under snow, of accepted figures: the segments of one code, written into a slice that the caller lends.
+#![tactic(auto)]
+
 ghost use Rattle.std.specs.Prelude.{◌≡◌, length, ◌≤◌};
 ghost use Rattle.roof_arrangements.specs.Arrangement.{made_means, made_count, contents};
 ghost use Rattle.standard.specs.Answers.{room_answer, make_in};
@@ -12,7 +14,7 @@ use written_segments::write;
 const SLICE: u8 = 11;
 
 // What the maker answers: how many segments it wrote, or the number of the first broken rule.
-#[derive(Drop)]
+#[derive(Clone, Copy)]
 pub enum Made {
     Segments(usize),
     Refused(u8),

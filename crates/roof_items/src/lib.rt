@@ -1,4 +1,6 @@
 // The items of a roof that has no spans beside it, kinds 2, 3, 5, 6, 7 and 10.
+#![tactic(auto)]
+
 ghost use Rattle.std.specs.Prelude.{◌≡◌, length};
 ghost use Rattle.roof_items.specs.RoofItems.{monopitch_item, pitched_item, cylindrical_item, abutting_item, projection_item, lower_at, lower_item};
 

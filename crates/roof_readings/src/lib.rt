@@ -1,4 +1,6 @@
 // The load at a station of a roof under one arrangement, of accepted figures, worked from these.
+#![tactic(auto)]
+
 ghost use Rattle.std.specs.Prelude.{◌≡◌, ◌≤◌};
 ghost use Rattle.figures.specs.RoofRules.{roof_of};
 ghost use Rattle.roof_readings.specs.Reading.{reading_means, value_of};
@@ -17,7 +19,7 @@ use segments::Ramp;
 const PAST_THE_END: u8 = 12;
 
 // What is read at a station: a load in N/m², or the number of the first broken rule.
-#[derive(Drop)]
+#[derive(Clone, Copy)]
 pub enum Reading {
     Load(u32),
     Refused(u8),

@@ -1,4 +1,6 @@
 // The rows of one roof: its arrangements, code upward, and after them its local forces, slope by slope.
+#![tactic(auto)]
+
 ghost use Rattle.std.specs.Prelude.{true, ◌≡◌, ◌+◌, ◌*◌, ◌≤◌, length};
 ghost use Rattle.figures.specs.RoofRules.{roof_of, kind_of, span_count};
 ghost use Rattle.roof_rows.specs.Rows.{code_rows, arrangement_rows, roof_rows, row_count};

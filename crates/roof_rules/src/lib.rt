@@ -1,4 +1,6 @@
 // The value rules on a roof, refusals 8, 9 and 10, by its shape.
+#![tactic(auto)]
+
 ghost use Rattle.std.specs.Prelude.{◌≡◌};
 ghost use Rattle.figures.specs.RoofRules.{shape_refusal, roof_refusal};
 

@@ -1,4 +1,6 @@
 // The slopes of a roof of kind 2 or 3 by their numbers.
+#![tactic(auto)]
+
 ghost use Rattle.std.specs.Prelude.{◌≡◌};
 ghost use Rattle.figures.specs.Slopes.{slope_at};
 ghost use Rattle.roof_slopes.specs.Slopes.{slope_means};
@@ -6,7 +8,7 @@ ghost use Rattle.roof_slopes.specs.Slopes.{slope_means};
 use figures::{Shape, Slope};
 
 // A slope of a roof with its guard, or none of that number.
-#[derive(Drop)]
+#[derive(Clone, Copy)]
 pub enum RoofSlope {
     Found { slope: Slope, guard: u8 },
     Missing,

@@ -1,4 +1,6 @@
 // Rounding up without overflow, and limits. The definitions and the laws of rounding and of ramps stand in specs/ and proofs/.
+#![tactic(auto)]
+
 mod limits;
 
 ghost use Rattle.std.specs.Prelude.{◌≡◌};

@@ -17,7 +17,7 @@ fn has_slope(shape: Shape, number: u8) -> bool {
 }
 
 // A slope and its guard.
-#[derive(Drop)]
+#[derive(Clone, Copy)]
 struct Guarded {
     slope: Slope,
     guard: u8,

@@ -1,5 +1,7 @@
 // A second calculation of the snow on a roof, from the words of documents 01 and 02 alone. It multiplies and compares, and never
 // divides a load: a load rounded up is the least whole number that reaches it, found by halving an interval.
+#![tactic(auto)]
+
 mod force;
 mod roof;
 mod station;

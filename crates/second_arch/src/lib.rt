@@ -1,4 +1,6 @@
 // The second calculation, kind 5: a cylindrical roof.
+#![tactic(auto)]
+
 ghost use Rattle.std.specs.Prelude.{◌≤◌, ◌<◌};
 
 use second_numbers::{

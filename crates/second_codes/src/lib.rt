@@ -1,4 +1,6 @@
 // The second calculation: which codes a roof has in a situation.
+#![tactic(auto)]
+
 use figures::Shape;
 
 // The code of the same shape without Cesl.

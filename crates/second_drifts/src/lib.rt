@@ -1,4 +1,6 @@
 // The second calculation, kinds 6, 7 and 10: drifts at a wall and at a projection.
+#![tactic(auto)]
+
 ghost use Rattle.std.specs.Prelude.{◌≤◌};
 
 use figures::{National, Slope};

@@ -1,4 +1,6 @@
 // The second calculation of the ground load by the map, Table C.1, and of its refusals.
+#![tactic(auto)]
+
 use second_numbers::{difference, least, multiple, plus, sum, times, whole};
 
 // A refusal is this and its number.

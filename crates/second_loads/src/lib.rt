@@ -1,5 +1,7 @@
 // The loads of the second calculation: μ × Ce × Ct × sk, times Cesl in the accidental codes, μ × sk in the drifts of
 // Annex B. A break load is worked in parts of a N/m², a load at a station is whole.
+#![tactic(auto)]
+
 use figures::Site;
 use second_numbers::{
     Ratio, Segment, along, difference, holds, least, multiple, not_above, plus, sum, times, whole,
@@ -14,7 +16,7 @@ pub const TENTHS: u32 = 10;
 pub const WHOLE: u32 = 1;
 
 // The ground load and the factor on μ × sk in millionths.
-#[derive(Drop)]
+#[derive(Clone, Copy)]
 pub struct Ground {
     pub factor: u32,
     pub sk: u32,

@@ -3,7 +3,7 @@ use super::figure::{multiple, sum};
 use super::number::{not_above, times, whole};
 
 // A coefficient num/den.
-#[derive(Drop)]
+#[derive(Clone, Copy)]
 pub struct Ratio {
     pub num: u32,
     pub den: u32,

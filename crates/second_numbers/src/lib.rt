@@ -1,5 +1,7 @@
 // What the second calculation reckons with: whole numbers of 256 bits, sums of figures, the sine of a pitch, shape
 // coefficients as exact fractions, and the segments that have them.
+#![tactic(auto)]
+
 mod coefficient;
 mod figure;
 mod number;

@@ -4,7 +4,7 @@ use super::figure::{difference, sum};
 
 // From start to end, in quarter millimetres. The uncut line is length long and begins skipped before the start. At its
 // beginning stand from and slide, each rounded up by itself, at its end stands to.
-#[derive(Drop)]
+#[derive(Clone, Copy)]
 pub struct Segment {
     pub start: u32,
     pub end: u32,

@@ -1,5 +1,7 @@
 // The second calculation's reading of a lent store of national sets, from the words of A8 alone: 193 numbers, the count, then six a
 // set. Sets are counted from 1, and looked at from the first upward.
+#![tactic(auto)]
+
 ghost use Rattle.std.specs.Prelude.{◌≤◌, ◌<◌};
 
 use figures::{JobDay, National};

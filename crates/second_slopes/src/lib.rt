@@ -1,4 +1,6 @@
 // The second calculation, kinds 2, 3 and 4: roofs of slopes.
+#![tactic(auto)]
+
 ghost use Rattle.std.specs.Prelude.{◌≤◌, ◌<◌};
 
 use figures::{SPAN_NUMBERS, Slope};

@@ -1,4 +1,6 @@
 // The second calculation, kind 9: exceptional drifts in valleys, by Annex B.
+#![tactic(auto)]
+
 ghost use Rattle.std.specs.Prelude.{◌≤◌};
 
 use figures::SPAN_NUMBERS;

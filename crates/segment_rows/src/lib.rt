@@ -1,4 +1,6 @@
 // Rows of segments, with the digits of a number held in a word.
+#![tactic(auto)]
+
 ghost use Rattle.std.specs.Prelude.{◌+◌, ◌*◌, ◌≤◌, ◌<◌, length};
 ghost use Rattle.text.specs.Text.{Wrote};
 ghost use Rattle.digits.specs.Words.{IsTable};

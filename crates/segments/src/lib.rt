@@ -1,5 +1,7 @@
 // The ramp that each segment is cut from, by its index, for every kind of roof; how many segments an arrangement has, and where
 // the roof ends. These calls are for the crates above: what they require, accepted figures keep.
+#![tactic(auto)]
+
 mod dispatch;
 mod spans;
 

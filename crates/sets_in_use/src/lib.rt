@@ -1,4 +1,6 @@
 // The national set that a job uses, by its day, in an accepted store; and refusal 19.
+#![tactic(auto)]
+
 ghost use Rattle.std.specs.Prelude.{◌≡◌, ◌≤◌, length};
 ghost use Rattle.figures.specs.Bounds.{NationalIn};
 ghost use Rattle.figures.specs.Store.{set_count, set_start, set_at, store_refusal, last_begun, begun_number, day_refusal, begun_figures, figures_in_use};

@@ -1,4 +1,6 @@
 // The shape coefficients over one denominator each. These calls are for the crates above: what they require, accepted figures keep.
+#![tactic(auto)]
+
 ghost use Rattle.std.specs.Prelude.{◌≡◌, ◌+◌, ◌*◌, ◌≤◌, min, max};
 ghost use Rattle.standard.specs.Numerators.{mu1_num, slope_num, mu2_num, mu3_num, wind_num, slide_num, projection_num};
 ghost use Rattle.figures.specs.Bounds.{NationalIn};

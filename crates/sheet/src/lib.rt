@@ -1,5 +1,7 @@
 // A sheet as bytes, by who reads it: the verdict on it, where an item lies, and the item as a part of the sheet; a pair's
 // word, split and joined. Every call takes any bytes.
+#![tactic(auto)]
+
 mod reader;
 
 pub use ceilings::Caller;

@@ -16,7 +16,7 @@ use upper_rules::uppers_verdict;
 const NO_SUCH_ITEM: u8 = 12;
 
 // Where an item lies: its offset and its length; or the number and the item of a refusal.
-#[derive(Drop)]
+#[derive(Clone, Copy)]
 pub enum Located {
     At(usize, usize),
     Nowhere(u8, usize),

@@ -1,4 +1,6 @@
 // The one place where a sheet becomes figures: the sheet's site, the national figures that its job uses, and an item's roof.
+#![tactic(auto)]
+
 ghost use Rattle.std.specs.Prelude.{false, ◌≡◌, ◌<◌};
 ghost use Rattle.figures.specs.RoofRules.{roof_refusal};
 ghost use Rattle.figures.specs.SiteRules.{site_refusal};
@@ -23,7 +25,7 @@ use stepped_roofs::{stepped_shape, upper_shape};
 
 // What there is at an index: a roof, the site's item, which is no roof, or a refusal with its number and the item that it
 // names.
-#[derive(Drop)]
+#[derive(Clone, Copy)]
 pub enum Finding {
     RoofFound,
     NoRoof,
@@ -32,7 +34,7 @@ pub enum Finding {
 
 // A finding with the figures: the national ones that the job uses, the sheet's site and the item's roof; where there is none the
 // recommended ones and zeros.
-#[derive(Drop)]
+#[derive(Clone, Copy)]
 pub struct Found {
     pub finding: Finding,
     pub national: National,

@@ -1,4 +1,6 @@
 // The rows of a sheet's roofs, in the order of the listing.
+#![tactic(auto)]
+
 ghost use Rattle.std.specs.Prelude.{◌≡◌, ◌+◌, ◌-◌, ◌≤◌, length};
 ghost use Rattle.ceilings.specs.Ceilings.{terminals};
 ghost use Rattle.pairs.specs.Pairs.{accepted};

@@ -1,4 +1,6 @@
 // The sine of a pitch, from a table of 801 entries. For the crates above: it asks for a pitch of at most 80.0°.
+#![tactic(auto)]
+
 ghost use Rattle.std.specs.Prelude.{◌≡◌, ◌≤◌};
 ghost use Rattle.standard.specs.Sine.{sine_entry};
 

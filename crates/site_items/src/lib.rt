@@ -1,4 +1,6 @@
 // The items of a site, kinds 1 and 8.
+#![tactic(auto)]
+
 ghost use Rattle.std.specs.Prelude.{◌≡◌, ◌+◌, ◌≤◌, length};
 ghost use Rattle.site_items.specs.SiteItems.{day_at, site_length, site_data_at, site_item, map_site_item};
 

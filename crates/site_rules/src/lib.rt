@@ -1,4 +1,6 @@
 // The value rules on a site: refusals 6 and 7.
+#![tactic(auto)]
+
 ghost use Rattle.std.specs.Prelude.{◌≡◌};
 ghost use Rattle.figures.specs.SiteRules.{ground_field, other_fields, site_fields, altitude_refusal, site_refusal};
 

@@ -1,4 +1,6 @@
 // The undrifted load S on a slope of kind 2 or 3, and the larger S of a roof.
+#![tactic(auto)]
+
 ghost use Rattle.std.specs.Prelude.{◌≡◌, ◌≤◌};
 ghost use Rattle.figures.specs.Bounds.{SiteIn};
 ghost use Rattle.figures.specs.SiteRules.{site_refusal};

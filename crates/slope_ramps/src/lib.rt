@@ -1,5 +1,7 @@
 // The ramps of roofs of plain slopes: monopitch, pitched and multi-span roofs.
 // These calls are for the crates above: what they require, accepted figures keep.
+#![tactic(auto)]
+
 mod monopitch;
 mod multi_span;
 mod pitched;

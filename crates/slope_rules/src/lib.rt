@@ -1,4 +1,6 @@
 // The rules on a slope, and on the slopes and valleys of a multi-span roof: refusals 8 and 9.
+#![tactic(auto)]
+
 ghost use Rattle.std.specs.Prelude.{◌≡◌, ◌≤◌};
 ghost use Rattle.figures.specs.RoofRules.{slope_fields, slopes_fields, valley_fields, valleys_fields, span_fields, steep_valley, steep_valleys};
 

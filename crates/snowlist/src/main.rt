@@ -1,4 +1,6 @@
 // snowlist: reads a sheet from standard input and writes its listing to standard output.
+#![tactic(auto)]
+
 ghost use Rattle.std.specs.Prelude.{◌≡◌, length};
 
 // A sheet's most bytes and one more, which tells a sheet that is too long.

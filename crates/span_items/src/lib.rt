@@ -1,4 +1,6 @@
 // The items of a multi-span roof, kinds 4 and 9.
+#![tactic(auto)]
+
 ghost use Rattle.std.specs.Prelude.{◌≡◌};
 ghost use Rattle.span_items.specs.SpanItems.{multi_span_item, drifted_item};
 

@@ -1,5 +1,7 @@
 // The numbers of a multi-span item: the slopes of kinds 4 and 9, and the valleys of kind 9. These calls are for the crates
 // above: each asks that its bytes are there.
+#![tactic(auto)]
+
 ghost use Rattle.std.specs.Prelude.{◌≡◌, ◌+◌, ◌-◌, ◌*◌, ◌<◌, ◌≤◌, length};
 ghost use Rattle.span_numbers.specs.SpanNumbers.{slopes_from, spans_held, valleys_from, drifted_from};
 

@@ -1,4 +1,6 @@
 // The figures of a lower roof that takes those of its upper roof from another item, kind 10. They are found here alone.
+#![tactic(auto)]
+
 ghost use Rattle.std.specs.Prelude.{◌≡◌, ◌≤◌};
 ghost use Rattle.figures.specs.Slopes.{slope_at, AcceptedShape};
 ghost use Rattle.roof_slopes.specs.Slopes.{slope_means};

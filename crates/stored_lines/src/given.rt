@@ -8,7 +8,7 @@ use figures::{JobDay, Roof, SPAN_NUMBERS, Shape, Site, Slope};
 const BEYOND: u32 = 900;
 
 // Seven numbers.
-#[derive(Drop)]
+#[derive(Clone, Copy)]
 struct Row {
     a: u32,
     b: u32,

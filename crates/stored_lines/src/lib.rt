@@ -1,4 +1,6 @@
 // Lines of stored cases: words and whole numbers, and the site and the roof that they give.
+#![tactic(auto)]
+
 mod given;
 mod words;
 

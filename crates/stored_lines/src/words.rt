@@ -17,11 +17,9 @@ pub fn behind(text: &[u8], at: usize, byte: u8) -> usize
     requires { at < length text.now }
     ensures { (at < result) × (result ≤ length text.now) }
 {
-    let end = bytes::scan::find(text, at, text.len(), byte);
-    if end < text.len() {
-        end + 1
-    } else {
-        text.len()
+    match text[at..].iter().position(|x| *x == byte) {
+        Some(k) => at + k + 1,
+        None => text.len(),
     }
 }
 

@@ -1,5 +1,7 @@
 // Calls for the terminals' firmware and the quote desk, in C's terms. Each takes any bytes as a sheet, any numbers as a store of national
 // sets, and any numbers besides; a slice is a pointer and its length.
+#![tactic(auto)]
+
 ghost use Rattle.std.specs.Prelude.{◌≡◌, ◌≤◌, length};
 ghost use Rattle.added_sets.specs.Adding.{add_answer, store_after};
 ghost use Rattle.listing.specs.Listing.{listed, bytes_after};

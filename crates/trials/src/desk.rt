@@ -6,7 +6,7 @@ use sheet::{Caller, Located, Verdict};
 const INDEXES: usize = 34;
 
 // An answer as numbers: that of its refusal, 0 where it is none, and what stands with it.
-#[derive(Drop)]
+#[derive(Clone, Copy)]
 struct Numbers {
     refusal: u8,
     first: usize,

@@ -7,7 +7,7 @@ use sheet::{Caller, Verdict};
 
 // Whether the library refuses the sheet, and whether its listing of it is the stored text; whether the sheet is inside the
 // quote desk's ceiling, and whether the desk reads it as it must.
-#[derive(Drop)]
+#[derive(Clone, Copy)]
 pub struct Outcome {
     pub refused: bool,
     pub agrees: bool,

@@ -1,6 +1,8 @@
 // Reads stored sheets, sound and damaged, and holds the library's listing of each against the text stored with it, and the
 // quote desk's reading of it against a terminal's.
 // The file has one record after the other: the sizes of the sheet and of its text, the sheet, the text.
+#![tactic(auto)]
+
 mod desk;
 mod listed;
 mod records;

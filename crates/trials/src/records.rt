@@ -10,7 +10,7 @@ const SIZES: usize = 8;
 // What the whole records came to: how many bytes of the file they take, how many sheets they are, how many of
 // these the library refuses and how many agree, how many are inside the quote desk's ceiling and how many the desk
 // reads as it must, and the end of the lines that were put.
-#[derive(Drop)]
+#[derive(Clone, Copy)]
 struct Totals {
     taken: usize,
     sheets: usize,

@@ -1,4 +1,6 @@
 // The upper items of a sheet's items, and the order in which its roofs are listed.
+#![tactic(auto)]
+
 ghost use Rattle.std.specs.Prelude.{◌≡◌, ◌++◌, ◌≤◌, length, drop, replicate};
 ghost use Rattle.circles.specs.Following.{upper_in};
 ghost use Rattle.items.specs.Items.{content};

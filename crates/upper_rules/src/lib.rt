@@ -1,4 +1,6 @@
 // The rules on upper items, refusals 16 and 17, over all items of a sheet.
+#![tactic(auto)]
+
 ghost use Rattle.std.specs.Prelude.{false, ◌≡◌, ◌-◌, ◌≤◌, ◌<◌};
 ghost use Rattle.circles.specs.Following.{upper_in, comes_back};
 ghost use Rattle.figures.specs.Rules.{refused_if};

@@ -1,5 +1,7 @@
 // Exceptional drifts in the valleys of a multi-span roof (Annex B, B2).
 // These calls are for the crates above: what they require, accepted figures keep.
+#![tactic(auto)]
+
 ghost use Rattle.std.specs.Prelude.{◌≡◌, ℕ, suc, ◌+◌, ◌*◌, ◌≤◌, ◌<◌};
 ghost use Rattle.figures.specs.Bounds.{Within, SlopeIn, MultiSpanIn};
 ghost use Rattle.figures.specs.RoofRules.{slope_of};

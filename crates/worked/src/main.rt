@@ -1,6 +1,8 @@
 // Reads stored cases: figures of documents 01 and 02, figures outside their ranges, and many roofs. Runs each through the
 // maker, the reader and the local forces, asks for the ground load of every place on the map, tries stores of national sets, holds
 // every answer to the stored figure or to a second calculation, and writes what it counted.
+#![tactic(auto)]
+
 mod ground;
 mod lines;
 mod report;

@@ -7,7 +7,7 @@ use stored_lines::{behind, number, word_of};
 pub const SET: u64 = 0x736574;
 
 // A site, and the national figures that its job uses by the second calculation's reading of the store.
-#[derive(Drop)]
+#[derive(Clone, Copy)]
 pub struct Job {
     pub site: Site,
     pub national: National,

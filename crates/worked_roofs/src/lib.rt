@@ -1,5 +1,7 @@
 // Roofs against the second calculation: each at every site, in every job and in every code, through the maker, the reader and the
 // local forces, and what is counted of it.
+#![tactic(auto)]
+
 mod arrangements;
 mod cases;
 mod drops;

@@ -2,7 +2,7 @@
 use counts::{Sets, Stores};
 
 // Loads by how far they lie below what they were before A4: not at all, by 1, by 2, or otherwise, as one that rose; and the worst drop.
-#[derive(Drop)]
+#[derive(Clone, Copy)]
 pub struct Drops {
     pub none: u64,
     pub one: u64,
@@ -13,7 +13,7 @@ pub struct Drops {
 
 // Loads read; those below the exact load, 1.2 N/m² and more above it, and falling where the ground load rises; the worst distance
 // above the exact load, in thousandths; and the drops of loads read.
-#[derive(Drop)]
+#[derive(Clone, Copy)]
 pub struct Readings {
     pub loads: u64,
     pub low: u64,
@@ -23,7 +23,7 @@ pub struct Readings {
     pub drops: Drops,
 }
 
-#[derive(Drop)]
+#[derive(Clone, Copy)]
 pub struct Tally {
     pub lines: u64,
     pub figures: u64,

@@ -1,5 +1,7 @@
 // National sets against the second calculation's reading of a store: the set that each day uses, the stores that are refused, and
 // what adding a set leaves. The stores are made by a rule.
+#![tactic(auto)]
+
 mod added;
 mod calls;
 mod days;

@@ -1,4 +1,6 @@
 // An arrangement's segments, written into a slice that the caller lends. For the crates above, which have accepted figures.
+#![tactic(auto)]
+
 ghost use Rattle.std.specs.Prelude.{◌++◌, ◌≡◌, length, take, drop, suc, ◌+◌, ◌*◌, ◌≤◌, ◌<◌};
 ghost use Rattle.written_segments.specs.Segments.{numbers};
 ghost use Rattle.figures.specs.Bounds.{NationalIn, ShapeIn};
@@ -12,7 +14,7 @@ ghost use Rattle.standard.specs.Units.{parts, largest_position};
 use figures::{National, SPAN_NUMBERS, Shape, Site};
 
 // A segment: start and end in quarter millimetres, the loads there in N/m².
-#[derive(Drop)]
+#[derive(Clone, Copy)]
 pub struct Segment {
     pub start: u32,
     pub end: u32,
