@@ -39,7 +39,7 @@ pub next_day-requires : goal.next_day-requires
 next_day-requires c = omega (arith, kept (goal.at.next_day-requires c).Else-store_refusal-ne0, c.to_usize-count.ensures)
 
 pub returns-then-not-set_sound : goal.returns-then-not-set_sound
-returns-then-not-set_sound c = rw (← judged (goal.at.returns-then-not-set_sound c).After-set_sound, not-true c.set_sound.result c.if-not-set_sound.true)
+returns-then-not-set_sound c = rw (← judged (goal.at.returns-then-not-set_sound c).After-set_sound, c.if-not-set_sound.true)
 
 pub returns : goal.returns
-returns c = rw (← judged (goal.at.returns c).After-set_sound, not-false c.set_sound.result c.if-not-set_sound.false)
+returns c = rw (← judged (goal.at.returns c).After-set_sound, c.if-not-set_sound.false)

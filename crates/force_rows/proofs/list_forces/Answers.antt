@@ -12,7 +12,7 @@ use Rattle.force_rows.proofs.list_forces.Goals as goal
 pub returns-then-not-has_forces : goal.returns-then-not-has_forces
 returns-then-not-has_forces c =
     let k : forces_in (kind_of c.args.shape) ≡ false =
-    rw c.kind_of.ensures at (sym c.has_forces.ensures ∙ not-true _ c.if-not-has_forces.true) in record { wrote = wrote_as (none _ _) (no_forces c.args.site c.args.shape c.args.item c.requires.1.spans c.requires.1.accepted k); upper_bound = omega arith }
+    rw c.kind_of.ensures at (sym c.has_forces.ensures ∙ c.if-not-has_forces.true) in record { wrote = wrote_as (none _ _) (no_forces c.args.site c.args.shape c.args.item c.requires.1.spans c.requires.1.accepted k); upper_bound = omega arith }
 
 pub returns : goal.returns
 unfolding force_rows

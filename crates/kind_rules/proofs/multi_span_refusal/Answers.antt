@@ -9,13 +9,13 @@ use Rattle.kind_rules.proofs.multi_span_refusal.Goals as goal
 use Rattle.kind_rules.proofs.multi_span_refusal.Goals.{Else-not-count}
 
 counted : (c : Else-not-count) → within 2 16 c.args.count ≡ true
-counted c = not-false (within 2 16 c.args.count) c.if-not-count.false
+counted c = c.if-not-count.false
 
 few : (c : Else-not-count) → (2 ≤ c.args.count) × (c.args.count ≤ 16)
 few c = within_in 2 16 c.args.count (counted c)
 
 pub returns-then-not-count : goal.returns-then-not-count
-returns-then-not-count c = no_count c.args.count c.args.drifts c.args.spans.now (not-true (within 2 16 c.args.count) c.if-not-count.true)
+returns-then-not-count c = no_count c.args.count c.args.drifts c.args.spans.now (c.if-not-count.true)
 
 pub span_fields-requires : goal.span_fields-requires
 span_fields-requires c = (omega (arith, few (goal.at.span_fields-requires c).Else-not-count), omega (arith, few (goal.at.span_fields-requires c).Else-not-count))

@@ -19,7 +19,7 @@ pub returns-then-count-gt-MOST_SETS : goal.returns-then-count-gt-MOST_SETS
 returns-then-count-gt-MOST_SETS c = above_32 _ c.if-store-ne-STORE_NUMBERS.false _ c.to_usize-count.ensures c.if-count-gt-MOST_SETS.true
 
 pub returns-then-not-sets_sound : goal.returns-then-not-sets_sound
-returns-then-not-sets_sound c = rw (← judged (goal.at.returns-then-not-sets_sound c).After-sets_sound, not-true c.sets_sound.result c.if-not-sets_sound.true)
+returns-then-not-sets_sound c = rw (← judged (goal.at.returns-then-not-sets_sound c).After-sets_sound, c.if-not-sets_sound.true)
 
 pub returns : goal.returns
-returns c = rw (← judged (goal.at.returns c).After-sets_sound, not-false c.sets_sound.result c.if-not-sets_sound.false)
+returns c = rw (← judged (goal.at.returns c).After-sets_sound, c.if-not-sets_sound.false)

@@ -14,14 +14,14 @@ sound :
     c.index_at-n.result
     ≡ true
 sound c =
-    not-false (fits c.args.ceiling (length c.args.s.now) c.index_at-n.result) c.if-not-s-ceiling.false
+    c.if-not-s-ceiling.false
 
 pub returns-then-s-lt2 : goal.returns-then-s-lt2
 returns-then-s-lt2 c = too_short _ _ c.if-s-lt2.true
 
 pub returns-then-not-s-ceiling : goal.returns-then-not-s-ceiling
 returns-then-not-s-ceiling c =
-    outside _ _ _ c.index_at-n.ensures.0 (not-true (fits c.args.ceiling (length c.args.s.now) c.index_at-n.result) c.if-not-s-ceiling.true)
+    outside _ _ _ c.index_at-n.ensures.0 (c.if-not-s-ceiling.true)
 
 pub check_pairs-requires : goal.check_pairs-requires
 check_pairs-requires c = (c.index_at-n.ensures.0, (fitting _ _ _ (sound (goal.at.check_pairs-requires c).Else-not-s-ceiling)).pairs)

@@ -7,9 +7,9 @@ use Rattle.roof_readings.proofs.load_in.Goals as goal
 
 pub returns-then-not-has_arrangement : goal.returns-then-not-has_arrangement
 unfolding load_in exists
-returns-then-not-has_arrangement c = code_refuses _ _ _ _ (sym c.has_arrangement.ensures ∙ not-true _ c.if-not-has_arrangement.true)
+returns-then-not-has_arrangement c = code_refuses _ _ _ _ (sym c.has_arrangement.ensures ∙ c.if-not-has_arrangement.true)
 
 pub returns : goal.returns
 unfolding load_in exists
 returns c =
-    c.load_accepted.ensures ∙ code_passes _ _ _ _ (sym c.has_arrangement.ensures ∙ not-false _ c.if-not-has_arrangement.false)
+    c.load_accepted.ensures ∙ code_passes _ _ _ _ (sym c.has_arrangement.ensures ∙ c.if-not-has_arrangement.false)

@@ -10,7 +10,7 @@ use Rattle.site_items.proofs.site_item.Goals as goal
 use Rattle.site_items.proofs.site_item.Goals.{Else-not-site_length}
 
 long : (c : Else-not-site_length) → site_length 14 (length c.args.p.now) ≡ true
-long c = sym c.site_length.ensures ∙ not-false _ c.if-not-site_length.false
+long c = sym c.site_length.ensures ∙ c.if-not-site_length.false
 
 enough : (c : Else-not-site_length) → 14 ≤ length c.args.p.now
 enough c = own_bytes 14 (length c.args.p.now) (long c)
@@ -18,7 +18,7 @@ enough c = own_bytes 14 (length c.args.p.now) (long c)
 pub returns-then-not-site_length : goal.returns-then-not-site_length
 unfolding site_item
 returns-then-not-site_length c =
-    c.refused.ensures ∙ sized_no 14 _ _ (sym c.site_length.ensures ∙ not-true _ c.if-not-site_length.true)
+    c.refused.ensures ∙ sized_no 14 _ _ (sym c.site_length.ensures ∙ c.if-not-site_length.true)
 
 pub u32_at-requires : goal.u32_at-requires
 u32_at-requires c = omega (arith, enough (goal.at.u32_at-requires c).Else-not-site_length)

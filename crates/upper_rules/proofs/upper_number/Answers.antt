@@ -16,7 +16,7 @@ asked c = c.is_lower.ensures ∙ ap (λ (p : List ℕ). is_lower (content p).ite
 
 lower :
     (c : After-may_stand_above) → is_lower (item_at c.args.s.now c.args.i) ≡ true
-lower c = sym (asked c) ∙ not-false _ c.if-not-is_lower.false
+lower c = sym (asked c) ∙ c.if-not-is_lower.false
 
 at :
     (c : After-may_stand_above) → c.upper_index.result ≡ upper_index (item_at c.args.s.now c.args.i)
@@ -28,7 +28,7 @@ part_at-p-requires c = c.requires.0 _ c.requires.1
 
 pub returns-then-not-is_lower : goal.returns-then-not-is_lower
 returns-then-not-is_lower c =
-    not_lower _ _ _ (sym (asked (goal.at.returns-then-not-is_lower c).After-is_lower) ∙ not-true _ c.if-not-is_lower.true)
+    not_lower _ _ _ (sym (asked (goal.at.returns-then-not-is_lower c).After-is_lower) ∙ c.if-not-is_lower.true)
 
 pub returns-then-may_stand_above : goal.returns-then-may_stand_above
 returns-then-may_stand_above c = sound_upper _ _ _ _ _ (lower (goal.at.returns-then-may_stand_above c).After-may_stand_above) (at (goal.at.returns-then-may_stand_above c).After-may_stand_above) c.may_stand_above.ensures c.if-may_stand_above.true

@@ -5,7 +5,7 @@ use Rattle.upper_rules.proofs.Passed.{none_lower, site_alone, uppers_refused, up
 use Rattle.upper_rules.proofs.uppers_verdict.Goals as goal
 
 pub returns-then-not-has_lower : goal.returns-then-not-has_lower
-returns-then-not-has_lower c = none_lower _ _ (sym c.has_lower.ensures ∙ not-true _ c.if-not-has_lower.true)
+returns-then-not-has_lower c = none_lower _ _ (sym c.has_lower.ensures ∙ c.if-not-has_lower.true)
 
 pub check_circles-requires : goal.check_circles-requires
 check_circles-requires c =

@@ -10,7 +10,6 @@ use Rattle.loads.proofs.breaks.arch_load.Goals.{After-arch_numerator-m}
 mu :
     (c : After-arch_numerator-m) → Coefficient (mu3 c.args.national c.args.rise c.args.span) c.arch_numerator-m.result (100 * c.args.span)
 mu c =
-    let c.args = c.args in
     record {
       positive = mu3_positive c.args.national c.args.rise c.args.span c.requires.2.low;
       some = omega arith;

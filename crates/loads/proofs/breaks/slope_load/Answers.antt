@@ -8,7 +8,6 @@ use Rattle.loads.proofs.breaks.slope_load.Goals.{After-slope_numerator-m}
 mu1 :
     (c : After-slope_numerator-m) → Coefficient (slope_mu c.args.slope c.args.guard) c.slope_numerator-m.result 375
 mu1 c =
-    let c.args = c.args in
     record {
       positive = slope_mu_positive c.args.slope c.args.guard;
       some = omega arith;

@@ -13,7 +13,6 @@ use Rattle.loads.proofs.breaks.wall_load.Goals.{After-wind_numerator}
 wind-fits :
     (c : After-wind_numerator) → parts * (c.wind_numerator.result * c.args.factor) ≤ largest_part * (200 * c.args.h * 1000000)
 wind-fits c =
-    let c.args = c.args in
     wind_most _ c.args.h c.args.factor c.args.sk c.requires.7 c.wind_numerator.ensures.1
 
 pub overflow_mul-wind_numerator : goal.overflow_mul-wind_numerator
@@ -25,21 +24,20 @@ up-wind-requires c = (omega (arith, c.requires.2.low), omega (arith, c.requires.
 
 pub returns : goal.returns
 unfolding wall_load
-returns c =
-    (
-      both_are _ _ _ _
-          (part_without (mu_wind c.args.national c.args.b1 c.args.b2 c.args.h c.args.sk) c.wind_numerator.result (200 * c.args.h) c.args.factor c.args.sk _
-          (wind_positive c.args.national c.args.b1 c.args.b2 c.args.h c.args.sk c.requires.2.low c.requires.7.sk.low)
-          (omega (arith, c.requires.2.low))
-          (rw c.wind_numerator.ensures.0 (wind_is c.args.national c.args.b1 c.args.b2 c.args.h c.args.sk c.requires.2.low c.requires.7.sk.low))
-          c.up-wind.ensures.0)
-          (rw (← c.requires.5)
-          (part_is (mu_slide c.args.slope c.args.guard c.args.ls) c.slide_numerator.result (375 * c.args.ls) c.args.factor c.args.sk _
-          (record {
-            positive = slide_positive c.args.slope c.args.guard c.args.ls (omega (arith, c.requires.6.low));
-            some = omega (arith, c.requires.6.low);
-            same = rw c.slide_numerator.ensures.0 (slide_is c.args.slope c.args.guard c.args.ls c.requires.4);
-          })
-          c.load_up-slide.ensures.0)),
-      omega (arith, c.up-wind.ensures.1, c.load_up-slide.ensures.1),
-    )
+returns c = (
+  both_are _ _ _ _
+      (part_without (mu_wind c.args.national c.args.b1 c.args.b2 c.args.h c.args.sk) c.wind_numerator.result (200 * c.args.h) c.args.factor c.args.sk _
+      (wind_positive c.args.national c.args.b1 c.args.b2 c.args.h c.args.sk c.requires.2.low c.requires.7.sk.low)
+      (omega (arith, c.requires.2.low))
+      (rw c.wind_numerator.ensures.0 (wind_is c.args.national c.args.b1 c.args.b2 c.args.h c.args.sk c.requires.2.low c.requires.7.sk.low))
+      c.up-wind.ensures.0)
+      (rw (← c.requires.5)
+      (part_is (mu_slide c.args.slope c.args.guard c.args.ls) c.slide_numerator.result (375 * c.args.ls) c.args.factor c.args.sk _
+      (record {
+        positive = slide_positive c.args.slope c.args.guard c.args.ls (omega (arith, c.requires.6.low));
+        some = omega (arith, c.requires.6.low);
+        same = rw c.slide_numerator.ensures.0 (slide_is c.args.slope c.args.guard c.args.ls c.requires.4);
+      })
+      c.load_up-slide.ensures.0)),
+  omega (arith, c.up-wind.ensures.1, c.load_up-slide.ensures.1),
+)

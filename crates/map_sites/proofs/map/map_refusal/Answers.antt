@@ -14,12 +14,12 @@ returns-then-number-ne0 c =
 
 pub returns-then-not-map_fields : goal.returns-then-not-map_fields
 returns-then-not-map_fields c =
-    map_outside _ _ _ (low (goal.at.returns-then-not-map_fields c).Else-number-ne0) (sym c.map_fields.ensures ∙ not-true _ c.if-not-map_fields.true)
+    map_outside _ _ _ (low (goal.at.returns-then-not-map_fields c).Else-number-ne0) (sym c.map_fields.ensures ∙ c.if-not-map_fields.true)
 
 pub table_load-requires : goal.table_load-requires
-table_load-requires c = place_in _ _ _ (low (goal.at.table_load-requires c).Else-number-ne0) (sym c.map_fields.ensures ∙ not-false _ c.if-not-map_fields.false)
+table_load-requires c = place_in _ _ _ (low (goal.at.table_load-requires c).Else-number-ne0) (sym c.map_fields.ensures ∙ c.if-not-map_fields.false)
 
 pub returns : goal.returns
 returns c =
     rw (c.refused_if.ensures, c.ground_field.ensures, c.table_load.ensures)
-    (map_inside _ _ _ (low (goal.at.returns c).Else-number-ne0) (sym c.map_fields.ensures ∙ not-false _ c.if-not-map_fields.false))
+    (map_inside _ _ _ (low (goal.at.returns c).Else-number-ne0) (sym c.map_fields.ensures ∙ c.if-not-map_fields.false))

@@ -6,4 +6,4 @@ pub put_number-end-requires : goal.put_number-end-requires
 put_number-end-requires c = omega (arith, short c.args.x)
 
 pub returns : goal.returns
-returns c = record { wrote = then c.put_number-end.ensures.wrote (byte c.put_number-end.new.0 c.put_number-end.result c.args.behind); upper_bound = omega arith }
+returns c = record { wrote = then c.put_number-end.ensures.wrote (byte c.put_number-end.new.out c.put_number-end.result c.args.behind); upper_bound = omega arith }
