@@ -12,13 +12,9 @@ use Rattle.added_sets.proofs.add_refusal.Goals.{After-set_sound, Else-store_refu
 kept : (c : Else-store_refusal-ne0) → StoreKept c.args.store.now
 kept c = store_kept _ (sym c.store_refusal.ensures ∙ c.if-store_refusal-ne0.false)
 
-abbrev entry : tie.After-set-sound → tie.Start
-entry c = c.before.before.before.before.before.before.before.before.before.before.before
-
-judged : (c : After-set_sound) → ◌≡◌ {A = ℕ} (cond c.set_sound.result 0 18) (add_refusal (entry c).args.store.now (entry c).args.numbers.now)
+judged : (c : After-set_sound) → ◌≡◌ {A = ℕ} (cond c.set_sound.result 0 18) (add_refusal c.args.store.now c.args.numbers.now)
 judged c =
-    let a = (entry c).args in
-    by_set a.store.now a.numbers.now c.if-numbers-ne-SET_NUMBERS.false _ c.store_refusal.ensures c.if-store_refusal-ne0.false _
+    by_set c.args.store.now c.args.numbers.now c.if-numbers-ne-SET_NUMBERS.false _ c.store_refusal.ensures c.if-store_refusal-ne0.false _
     c.to_usize-count.ensures c.if-count-ge-MOST_SETS.false
     c.set_sound.result (rw (← c.next_day.ensures, ← c.set_from.ensures) c.set_sound.ensures)
 

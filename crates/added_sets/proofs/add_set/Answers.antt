@@ -11,7 +11,7 @@ allowed : (c : Else-add_refusal-ne0) → Addable c.args.store.now c.args.numbers
 allowed c = addable _ _ (sym c.add_refusal.ensures ∙ c.if-add_refusal-ne0.false)
 
 pub returns-then-add_refusal-ne0 : goal.returns-then-add_refusal-ne0
-returns-then-add_refusal-ne0 c = let e = not_added _ _ _ c.add_refusal.ensures c.if-add_refusal-ne0.true in (e.0, (e.1, omega arith))
+returns-then-add_refusal-ne0 c = let e = not_added _ _ _ c.add_refusal.ensures c.if-add_refusal-ne0.true in record { answer = e.0; left = e.1; few = omega arith }
 
 pub set_from-requires : goal.set_from-requires
 set_from-requires c = omega (arith, (allowed (goal.at.set_from-requires c).Else-add_refusal-ne0).six)
@@ -22,4 +22,8 @@ put_set-requires c = let a = allowed (goal.at.put_set-requires c).Else-add_refus
 pub returns : goal.returns
 returns c =
     let q = added _ _ _ c.add_refusal.ensures c.if-add_refusal-ne0.false in
-    (ap Count c.put_set.ensures.0 ∙ q.0, (c.put_set.ensures.1 ∙ (ap (with_set c.args.store.now) c.set_from.ensures ∙ q.1), omega (arith, c.put_set.ensures.0, (allowed (goal.at.returns c).Else-add_refusal-ne0).room)))
+    record {
+      answer = ap Count c.put_set.ensures.0 ∙ q.0;
+      left = c.put_set.ensures.1 ∙ (ap (with_set c.args.store.now) c.set_from.ensures ∙ q.1);
+      few = omega (arith, c.put_set.ensures.0, (allowed (goal.at.returns c).Else-add_refusal-ne0).room);
+    }

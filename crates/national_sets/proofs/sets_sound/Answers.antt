@@ -1,6 +1,5 @@
 use Rattle.figures.specs.Store.{set_at, sets_sound}
 use Rattle.national_sets.proofs.Judged.{sets_more, next_earliest}
-use Prim.Native.Nat.{◌-◌}
 use mathlib.Core.Path.{◌≡◌, refl}
 use native.Mathlib.Omega.{arith}
 use Rattle.national_sets.proofs.sets_sound.Goals as goal

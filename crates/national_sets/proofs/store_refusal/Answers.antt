@@ -1,7 +1,6 @@
 use Prim.Native.Nat.{ℕ}
 use Rattle.figures.specs.Store.{store_refusal}
 use Rattle.national_sets.proofs.Judged.{not_193, above_32, by_sets}
-use borrow.Author.Tests.{not-true, not-false}
 use mathlib.Core.Bool.{cond}
 use mathlib.Core.Path.{◌≡◌}
 use Rattle.national_sets.proofs.store_refusal.Goals as goal

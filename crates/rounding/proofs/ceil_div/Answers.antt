@@ -3,7 +3,6 @@ use Prim.Native.Nat.{◌/◌, ◌<◌}
 use native.Mathlib.Nat.{div-add-mod', mod-lt, le-mul_of_pos_right}
 use native.Mathlib.Omega.{arith}
 use Rattle.rounding.proofs.Rounding.{by_zero, unique}
-use Rattle.rounding.proofs.ceil_div.Tie as tie
 use Rattle.rounding.proofs.ceil_div.Goals as goal
 
 pub returns-then-d-eq0 : goal.returns-then-d-eq0

@@ -5,14 +5,11 @@ use Rattle.figures.specs.Store.{set_in_use, figures_in_use}
 use Rattle.sets_in_use.proofs.figures_for.Goals as goal
 use Rattle.sets_in_use.proofs.figures_for.Goals.{After-last_begun}
 
-abbrev entry : tie.After-last-begun → tie.Start
-entry c = c.before.before.before.before.before.before.before
-
-used : (c : After-last_begun) → c.last_begun.result ≡ figures_in_use (entry c).args.store.now (entry c).args.job
+used : (c : After-last_begun) → c.last_begun.result ≡ figures_in_use c.args.store.now c.args.job
 unfolding figures_in_use set_in_use
 used c =
     (rw c.to_usize.ensures at c.last_begun.ensures)
-    ∙ ap (figures_in_use (entry c).args.store.now) (sym c.in-Dated.is)
+    ∙ ap (figures_in_use c.args.store.now) (sym c.in-Dated.is)
 
 pub bounds-store-0 : goal.bounds-store-0
 bounds-store-0 c = omega (arith, (store_kept _ c.requires).all)
@@ -25,4 +22,4 @@ unfolding figures_in_use set_in_use
 returns-in-Undated c = (rw (c.in-Undated.is, c.recommended.ensures), rw c.recommended.ensures recommended_in)
 
 pub returns-in-Dated : goal.returns-in-Dated
-returns-in-Dated c = (used (goal.at.returns-in-Dated c).After-last_begun, rw (used (goal.at.returns-in-Dated c).After-last_begun) (in_use_in _ _ (entry (goal.at.returns-in-Dated c).After-last_begun).requires))
+returns-in-Dated c = (used (goal.at.returns-in-Dated c).After-last_begun, rw (used (goal.at.returns-in-Dated c).After-last_begun) (in_use_in _ _ c.requires))

@@ -1,5 +1,4 @@
 use mathlib.Core.Path.{◌≡◌, refl}
-use Prim.Native.Nat.{◌-◌}
 use Rattle.figures.specs.RoofRules.{slopes_fields}
 use Rattle.figures.proofs.Laws.{slopes_more}
 use native.Mathlib.Omega.{arith}

@@ -1,5 +1,4 @@
 use mathlib.Core.Path.{◌≡◌, refl}
-use Prim.Native.Nat.{◌-◌}
 use Rattle.figures.specs.RoofRules.{steep_valleys}
 use Rattle.figures.proofs.Laws.{valleys_more}
 use native.Mathlib.Omega.{arith}

@@ -1,5 +1,4 @@
 use mathlib.Core.Path.{◌≡◌, refl}
-use Prim.Native.Nat.{◌-◌}
 use Rattle.figures.specs.RoofRules.{valleys_fields}
 use Rattle.figures.proofs.Laws.{drifts_more}
 use native.Mathlib.Omega.{arith}

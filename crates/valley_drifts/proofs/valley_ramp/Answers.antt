@@ -5,17 +5,15 @@ use Rattle.figures.specs.Bounds.{SlopeIn}
 use Rattle.figures.specs.RoofRules.{slope_of}
 use Rattle.valley_drifts.proofs.valley_ramp.Goals as goal
 
-module _ (c : tie.Start) where
-  its-valley : (c.args.v < 15) × ((i : ℕ) → i < 2 * c.args.v + 4 → SlopeIn (slope_of c.args.spans.now i)) × (c.args.sk ≤ 25000)
-  its-valley =
-      let f = c.requires.0 in
-      (omega (arith, f.count.high, c.requires.1), λ i h. f.spans i (omega (arith, h, c.requires.1)), c.requires.2)
-
 pub valley_load-requires : goal.valley_load-requires
-valley_load-requires c = its-valley (goal.at.valley_load-requires c).Start
+valley_load-requires c =
+    let f = c.requires.0 in
+    (omega (arith, f.count.high, c.requires.1), λ i h. f.spans i (omega (arith, h, c.requires.1)), c.requires.2)
 
 pub valley_load-requires-in-2 : goal.valley_load-requires-in-2
-valley_load-requires-in-2 c = its-valley (goal.at.valley_load-requires-in-2 c).Start
+valley_load-requires-in-2 c =
+    let f = c.requires.0 in
+    (omega (arith, f.count.high, c.requires.1), λ i h. f.spans i (omega (arith, h, c.requires.1)), c.requires.2)
 
 pub returns-in-0 : goal.returns-in-0
 returns-in-0 c =
@@ -34,5 +32,5 @@ returns-in-2 c =
 
 pub returns-in_default : goal.returns-in_default
 returns-in_default c =
-    let past : 2 < c.args.i = omega (arith, c.in_default.rest.0.0.1, c.in_default.rest.0.1, c.in_default.rest.1) in
+    let past : 2 < c.args.i = omega arith in
     bare_after _ _ _ _ c.requires.0 c.requires.1 _ _ _ _ _ past (omega arith) (omega arith) c.widths_between-in_default.ensures.0 c.even-in_default.ensures

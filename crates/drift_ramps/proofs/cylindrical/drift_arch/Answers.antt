@@ -8,45 +8,32 @@ use Prim.Native.Nat.{◌≤◌}
 use native.Mathlib.Omega.{arith}
 use Rattle.drift_ramps.proofs.cylindrical.drift_arch.Goals as goal
 
-module _ (c : tie.Start) where
-  abbrev half : Load
-  half = half_load c.args.national c.args.factor c.args.sk c.args.rise c.args.span
-
-  abbrev peak : Load
-  peak = peak_load c.args.national c.args.factor c.args.sk c.args.rise c.args.span
-
-  some : 1 ≤ c.args.ls
-  some = c.requires.3.low
-
-  most : c.args.ls ≤ largest_position
-  most = omega (arith, c.requires.3.high, c.requires.2.high)
-
 pub returns-in-1 : goal.returns-in-1
 unfolding arch_drift half_load peak_load
 returns-in-1 c =
     rw c.in-1.is
-    (whole_ramp c.args.ls 0 _ no_load (half (goal.at.returns-in-1 c).Start) _ c.whole.ensures no_load_lem c.arch_load.ensures (some (goal.at.returns-in-1 c).Start) (most (goal.at.returns-in-1 c).Start))
+    (whole_ramp c.args.ls 0 _ no_load (half_load c.args.national c.args.factor c.args.sk c.args.rise c.args.span) _ c.whole.ensures no_load_lem c.arch_load.ensures c.requires.3.low (omega (arith, c.requires.3.high, c.requires.2.high)))
 
 pub returns-in-2 : goal.returns-in-2
 unfolding arch_drift half_load peak_load
 returns-in-2 c =
     rw c.in-2.is
-    (whole_ramp c.args.ls _ 0 (half (goal.at.returns-in-2 c).Start) no_load _ c.whole-in-2.ensures c.arch_load-in-2.ensures no_load_lem (some (goal.at.returns-in-2 c).Start) (most (goal.at.returns-in-2 c).Start))
+    (whole_ramp c.args.ls _ 0 (half_load c.args.national c.args.factor c.args.sk c.args.rise c.args.span) no_load _ c.whole-in-2.ensures c.arch_load-in-2.ensures no_load_lem c.requires.3.low (omega (arith, c.requires.3.high, c.requires.2.high)))
 
 pub returns-in-3 : goal.returns-in-3
 unfolding arch_drift half_load peak_load
 returns-in-3 c =
     rw c.in-3.is
-    (whole_ramp c.args.ls 0 _ no_load (peak (goal.at.returns-in-3 c).Start) _ c.whole-in-3.ensures no_load_lem c.arch_load-in-3.ensures (some (goal.at.returns-in-3 c).Start) (most (goal.at.returns-in-3 c).Start))
+    (whole_ramp c.args.ls 0 _ no_load (peak_load c.args.national c.args.factor c.args.sk c.args.rise c.args.span) _ c.whole-in-3.ensures no_load_lem c.arch_load-in-3.ensures c.requires.3.low (omega (arith, c.requires.3.high, c.requires.2.high)))
 
 pub returns-in-4 : goal.returns-in-4
 unfolding arch_drift half_load peak_load
 returns-in-4 c =
     rw c.in-4.is
-    (whole_ramp c.args.ls _ 0 (peak (goal.at.returns-in-4 c).Start) no_load _ c.whole-in-4.ensures c.arch_load-in-4.ensures no_load_lem (some (goal.at.returns-in-4 c).Start) (most (goal.at.returns-in-4 c).Start))
+    (whole_ramp c.args.ls _ 0 (peak_load c.args.national c.args.factor c.args.sk c.args.rise c.args.span) no_load _ c.whole-in-4.ensures c.arch_load-in-4.ensures no_load_lem c.requires.3.low (omega (arith, c.requires.3.high, c.requires.2.high)))
 
 pub returns-in_default : goal.returns-in_default
 returns-in_default c =
-    let short = bare_ends _ _ _ c.requires.4 c.requires.5 c.in_default.rest.0.0.0.1 c.in_default.rest.0.0.1 c.in_default.rest.0.1 c.in_default.rest.1 in
-    rw (drift_bare _ _ _ _ _ c.in_default.rest.0.0.0.1 c.in_default.rest.0.0.1 c.in_default.rest.0.1 c.in_default.rest.1)
+    let short = bare_ends _ _ _ c.requires.4 c.requires.5 c.in_default.in_default-own.rest.0.0.0.1 c.in_default.in_default-own.rest.0.0.1 c.in_default.in_default-own.rest.0.1 c.in_default.in_default-own.rest.1 in
+    rw (drift_bare _ _ _ _ _ c.in_default.in_default-own.rest.0.0.0.1 c.in_default.in_default-own.rest.0.0.1 c.in_default.in_default-own.rest.0.1 c.in_default.in_default-own.rest.1)
     (even_ramp _ _ _ _ c.even.ensures no_load_lem (omega (arith, short)) (omega (arith, c.requires.2.high)))

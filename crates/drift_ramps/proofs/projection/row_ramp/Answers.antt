@@ -8,7 +8,7 @@ use Rattle.drift_ramps.proofs.projection.row_ramp.Goals.{In_default}
 
 past : (c : In_default) → c.args.ls < c.args.right
 past c =
-    let h : 2 < c.args.j = omega (arith, c.in_default.rest.1, c.in_default.rest.0.1, c.in_default.rest.0.0.1) in
+    let h : 2 < c.args.j = omega arith in
     c.requires.4 h
 
 pub overflow_sub-left : goal.overflow_sub-left
@@ -38,5 +38,5 @@ returns-in-2 c =
 
 pub returns-in_default : goal.returns-in_default
 returns-in_default c =
-    rw (row_last _ _ _ _ _ _ c.in_default.rest.0.0.1 c.in_default.rest.0.1 c.in_default.rest.1)
+    rw (row_last _ _ _ _ _ _ c.in_default.in_default-own.rest.0.0.1 c.in_default.in_default-own.rest.0.1 c.in_default.in_default-own.rest.1)
     (even_ramp _ _ _ _ c.even-in_default.ensures c.eight_tenths_load-rest.ensures (omega (arith, past (goal.at.returns-in_default c).In_default)) (omega (arith, c.requires.0.right.high)))

@@ -1,5 +1,4 @@
 use Prim.Native.Nat.{◌≤◌, ◌-◌}
-use Rattle.second_numbers.proofs.number.least.Tie as tie
 use Rattle.second_numbers.proofs.number.least.Given as goal
 
 abbrev pub invariant-loop-from : goal.invariant-loop-from

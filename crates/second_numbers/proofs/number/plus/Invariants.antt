@@ -1,5 +1,4 @@
 use Prim.Native.Nat.{◌≤◌, ◌-◌}
-use Rattle.second_numbers.proofs.number.plus.Tie as tie
 use Rattle.second_numbers.proofs.number.plus.Given as goal
 
 abbrev pub invariant-loop-i : goal.invariant-loop-i

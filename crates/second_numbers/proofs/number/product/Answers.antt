@@ -1,6 +1,5 @@
 use native.Mathlib.Nat.{mul-le-mul}
 use native.Mathlib.Omega.{arith}
-use Rattle.second_numbers.proofs.number.product.Tie as tie
 use Rattle.second_numbers.proofs.number.product.Goals as goal
 
 pub overflow_mul-result : goal.overflow_mul-result

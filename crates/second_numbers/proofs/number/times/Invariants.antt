@@ -1,5 +1,4 @@
 use Prim.Native.Nat.{◌≤◌, ◌-◌}
-use Rattle.second_numbers.proofs.number.times.Tie as tie
 use Rattle.second_numbers.proofs.number.times.Given as goal
 
 abbrev pub invariant-loop-i : goal.invariant-loop-i
