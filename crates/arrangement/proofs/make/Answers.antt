@@ -12,7 +12,7 @@ passed c = sym c.refusal-number.ensures ∙ c.if-number-ne0.false
 
 pub returns-then-number-ne0 : goal.returns-then-number-ne0
 unfolding make_answer
-returns-then-number-ne0 c = (rules_refuse _ _ _ _ _ c.refusal-number.ensures c.if-number-ne0.true, (refl, omega arith))
+returns-then-number-ne0 c = record { answer = rules_refuse _ _ _ _ _ c.refusal-number.ensures c.if-number-ne0.true; written = refl; few = omega arith }
 
 pub figures_for-requires : goal.figures_for-requires
 figures_for-requires c = (accepted _ _ _ (passed (goal.at.figures_for-requires c).Else-number-ne0)).accepted_store

@@ -1,6 +1,5 @@
 use Rattle.figures.proofs.Laws.{within_in, no_count, its_count}
 use Rattle.figures.specs.Ranges.{within}
-use borrow.Author.Tests.{not-true, not-false}
 use mathlib.Core.Path.{◌≡◌}
 use mathlib.Core.Bool.{true}
 use Prim.Native.Nat.{◌≤◌}

@@ -1,4 +1,3 @@
-use Prim.Native.Nat.{◌-◌}
 use mathlib.Core.Path.{◌≡◌, ap, sym}
 use native.Mathlib.Numerals.{add-one}
 use Rattle.plain_rows.specs.Rows.{slice_row, slice_rows}

@@ -14,7 +14,7 @@ passed c = sym c.refusal-number.ensures ∙ c.if-number-ne0.false
 answers : (c : After-load_in) → reading_means c.load_in.result ≡ load_answer c.args.store.now c.args.site c.args.roof c.args.code c.args.station
 unfolding load_answer
 answers c =
-    (rw c.figures_for.ensures.0 at c.load_in.ensures) ∙ rules_pass _ _ _ _ (passed c)
+    (rw c.figures_for.ensures.0 at c.load_in.ensures) ∙ rules_pass _ _ _ _ (sym c.refusal-number.ensures ∙ c.if-number-ne0.false)
 
 pub returns-then-number-ne0 : goal.returns-then-number-ne0
 unfolding load_answer

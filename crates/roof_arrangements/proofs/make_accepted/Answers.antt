@@ -4,12 +4,11 @@ use native.Mathlib.Omega.{arith}
 use Rattle.roof_arrangements.proofs.make_accepted.Goals as goal
 
 pub returns-then-out-n : goal.returns-then-out-n
-returns-then-out-n c = (no_room _ _ _ _ _ c.count-n.ensures.0 (omega arith), (refl, omega arith))
+returns-then-out-n c = record { answer = no_room _ _ _ _ _ c.count-n.ensures.0 (omega arith); written = refl; few = omega arith }
 
 pub write-requires : goal.write-requires
 write-requires c =
     (c.requires, c.count-n.ensures.0, omega arith)
 
 pub returns : goal.returns
-returns c =
-    (room_for _ _ _ _ _ c.count-n.ensures.0 (omega arith), (c.write.ensures, c.count-n.ensures.1))
+returns c = record { answer = room_for _ _ _ _ _ c.count-n.ensures.0 (omega arith); written = c.write.ensures; few = c.count-n.ensures.1 }

@@ -1,5 +1,4 @@
 use Prim.Native.Nat.{◌≤◌, ◌-◌}
-use Rattle.second_arch.proofs.loaded_width.Tie as tie
 use Rattle.second_arch.proofs.loaded_width.Given as goal
 
 abbrev pub invariant-loop-from : goal.invariant-loop-from

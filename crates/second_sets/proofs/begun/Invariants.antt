@@ -1,5 +1,4 @@
 use Prim.Native.Nat.{◌≤◌, ◌-◌}
-use Rattle.second_sets.proofs.begun.Tie as tie
 use Rattle.second_sets.proofs.begun.Given as goal
 
 abbrev pub invariant-loop-sets : goal.invariant-loop-sets

@@ -1,5 +1,4 @@
 use Prim.Native.Nat.{◌≤◌, ◌-◌}
-use Rattle.second_sets.proofs.breaks_range.Tie as tie
 use Rattle.second_sets.proofs.breaks_range.Given as goal
 
 abbrev pub invariant-loop-i : goal.invariant-loop-i

@@ -1,5 +1,4 @@
 use Prim.Native.Nat.{◌≤◌, ◌-◌}
-use Rattle.second_sets.proofs.refused.Tie as tie
 use Rattle.second_sets.proofs.refused.Given as goal
 
 abbrev pub invariant-loop-set : goal.invariant-loop-set

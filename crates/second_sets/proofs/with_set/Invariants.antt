@@ -1,5 +1,4 @@
 use Prim.Native.Nat.{◌≤◌, ◌-◌}
-use Rattle.second_sets.proofs.with_set.Tie as tie
 use Rattle.second_sets.proofs.with_set.Given as goal
 
 abbrev pub invariant-loop-place : goal.invariant-loop-place

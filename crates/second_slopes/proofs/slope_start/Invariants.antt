@@ -1,5 +1,4 @@
 use Prim.Native.Nat.{◌≤◌, ◌-◌}
-use Rattle.second_slopes.proofs.slope_start.Tie as tie
 use Rattle.second_slopes.proofs.slope_start.Given as goal
 
 abbrev pub invariant-loop-k : goal.invariant-loop-k

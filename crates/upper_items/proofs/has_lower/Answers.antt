@@ -9,22 +9,12 @@ use Rattle.upper_items.specs.Uppers.{item_at, stepped_in}
 use Rattle.upper_items.proofs.Lowers.{stepped_at_lem, stepped_next}
 use native.Mathlib.Omega.{arith}
 use Rattle.upper_items.proofs.has_lower.Goals as goal
-use Rattle.upper_items.proofs.has_lower.Goals.{After-is_lower, Else-is_lower, Then-is_lower}
+use Rattle.upper_items.proofs.has_lower.Goals.{After-is_lower}
 
 asked :
     (c : After-is_lower)
     → c.is_lower.result ≡ is_lower (item_at c.args.s.now c.loop-i.i)
 asked c = c.is_lower.ensures ∙ ap (λ (p : List ℕ). is_lower (content p).item) c.part_at.ensures
-
-lower-here :
-    (c : Then-is_lower)
-    → is_lower (item_at c.args.s.now c.loop-i.i) ≡ true
-lower-here c = sym (asked c) ∙ c.if-is_lower.true
-
-lower-not :
-    (c : Else-is_lower)
-    → is_lower (item_at c.args.s.now c.loop-i.i) ≡ false
-lower-not c = sym (asked c) ∙ c.if-is_lower.false
 
 pub loop-i-init : goal.loop-i-init
 unfolding stepped_in
@@ -36,11 +26,11 @@ part_at-requires c =
 
 pub returns-then-is_lower : goal.returns-then-is_lower
 returns-then-is_lower c =
-    stepped_at_lem _ _ _ c.loop-i-test.true (lower-here (goal.at.returns-then-is_lower c).Then-is_lower)
+    stepped_at_lem _ _ _ c.loop-i-test.true (sym (asked (goal.at.returns-then-is_lower c).After-is_lower) ∙ c.if-is_lower.true)
 
 pub loop-i-preserved : goal.loop-i-preserved
 loop-i-preserved c =
-    (omega arith, stepped_next _ _ c.loop-i.invariant.1 (lower-not (goal.at.loop-i-preserved c).Else-is_lower))
+    (omega arith, stepped_next _ _ c.loop-i.invariant.1 (sym (asked (goal.at.loop-i-preserved c).After-is_lower) ∙ c.if-is_lower.false))
 
 pub returns : goal.returns
 returns c =

@@ -6,16 +6,12 @@ use Rattle.items.proofs.Lowers.{lower_length}
 use Rattle.upper_items.proofs.Lowers.{upper_byte, no_upper}
 use native.Mathlib.Omega.{arith}
 use Rattle.upper_items.proofs.upper_index.Goals as goal
-use Rattle.upper_items.proofs.upper_index.Goals.{After-shared_slice_known-then-is_lower-1}
-
-lower : (c : After-shared_slice_known-then-is_lower-1) → is_lower (content c.args.p.now).item ≡ true
-lower c = sym c.is_lower.ensures ∙ c.if-is_lower.true
 
 pub bounds-p-9 : goal.bounds-p-9
-bounds-p-9 c = omega (arith, lower_length _ (lower (goal.at.bounds-p-9 c).After-shared_slice_known-then-is_lower-1-unread))
+bounds-p-9 c = omega (arith, lower_length _ (sym c.is_lower.ensures ∙ c.if-is_lower.true))
 
 pub returns-then-is_lower : goal.returns-then-is_lower
-returns-then-is_lower c = upper_byte _ (lower (goal.at.returns-then-is_lower c).After-shared_slice_known-then-is_lower-1)
+returns-then-is_lower c = upper_byte _ (sym c.is_lower.ensures ∙ c.if-is_lower.true)
 
 pub returns-else-is_lower : goal.returns-else-is_lower
 returns-else-is_lower c = no_upper (content c.args.p.now).item (sym c.is_lower.ensures ∙ c.if-is_lower.false)

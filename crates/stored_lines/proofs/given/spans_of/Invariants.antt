@@ -1,5 +1,4 @@
 use Prim.Native.Nat.{◌≤◌, ◌-◌}
-use Rattle.stored_lines.proofs.given.spans_of.Tie as tie
 use Rattle.stored_lines.proofs.given.spans_of.Given as goal
 
 abbrev pub invariant-loop-k : goal.invariant-loop-k

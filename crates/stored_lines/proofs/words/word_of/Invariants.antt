@@ -1,6 +1,5 @@
 use Prim.Native.Nat.{◌≤◌, ◌-◌}
 use lib.ListN.{length}
-use Rattle.stored_lines.proofs.words.word_of.Tie as tie
 use Rattle.stored_lines.proofs.words.word_of.Given as goal
 
 abbrev pub invariant-loop-i : goal.invariant-loop-i
