@@ -6,7 +6,6 @@ use mathlib.Core.List.{List, [], ◌∷◌}
 use mathlib.Core.Logic.{inl, inr}
 use mathlib.Core.Path.{◌≡◌, refl, sym, ap, subst, ◌∙◌}
 use native.Mathlib.Omega.{arith}
-use types.Run.{OneOf}
 use Rattle.figures.specs.Ranges.{within}
 use Rattle.figures.specs.RoofRules.{kind_of, roof_of, roof_refusal}
 use Rattle.figures.specs.SiteRules.{site_refusal}
@@ -27,7 +26,6 @@ use Rattle.items.specs.Items.{content}
 use Rattle.item_forms.specs.declared.Item.{Item}
 use Rattle.item_forms.specs.declared.Item.TheVariants.{SiteItem, RoofItem, LowerItem, Malformed}
 use Rattle.item_forms.specs.declared.Decoded.{Decoded}
-use Rattle.item_forms.proofs.Variants.{variant}
 use Rattle.stepped_roofs.specs.Stepped.{is_upper, upper_shape, stepped_shape}
 use Rattle.stepped_roofs.proofs.Uppers.{flat_accepted, stepped_accepted}
 use Rattle.figures.proofs.Tests.{clash}
@@ -75,11 +73,9 @@ roof_by_lem store i (LowerItem lower) above l n e u =
 roof_by_lem store i (Malformed number) above l n e u = absurd (omega arith)
 
 -- an item that is neither kind of roof says no shape
-pub no_own_shape : (x above : Item) → is_lower x ≡ false → OneOf (0 ∷ 2 ∷ 3 ∷ []) (variant x) → no_shape ≡ shape_by x above
+pub no_own_shape : (x above : Item) → is_lower x ≡ false → ((shape : Shape) → x ≡ RoofItem shape → ⊥) → no_shape ≡ shape_by x above
 no_own_shape (SiteItem fields) above e v = refl
-no_own_shape (RoofItem shape) above e (inl z) = absurd (omega arith)
-no_own_shape (RoofItem shape) above e (inr (inl z)) = absurd (omega arith)
-no_own_shape (RoofItem shape) above e (inr (inr z)) = absurd (omega arith)
+no_own_shape (RoofItem shape) above e v = absurd (v shape refl)
 no_own_shape (LowerItem lower) above e v = clash refl e
 no_own_shape (Malformed number) above e v = refl
 

@@ -23,5 +23,10 @@ make_in-requires c = rw c.figures_for.ensures.0 (figures_accepted _ _ _ (passed 
 pub returns : goal.returns
 unfolding make_answer
 returns c =
-    let a = rw c.figures_for.ensures.0 at c.make_in.ensures in
-    (a.0 ∙ rules_pass _ _ _ _ (passed (goal.at.returns c).Else-number-ne0), a.1)
+    record {
+      answer =
+          (rw c.figures_for.ensures.0 at c.make_in.ensures.answer)
+          ∙ rules_pass _ _ _ _ (passed (goal.at.returns c).Else-number-ne0);
+      written = rw c.figures_for.ensures.0 at c.make_in.ensures.written;
+      few = c.make_in.ensures.few;
+    }

@@ -6,7 +6,7 @@ use Rattle.item_rules.proofs.first_number.Goals as goal
 
 pub returns-in_default : goal.returns-in_default
 returns-in_default c =
-    c.misplaced_number.ensures ∙ ((first_misplaced _ c.decode-decoded.result.item c.decode-decoded.result.spans c.in_default.in_default-own.keys2).0 ∙ ap (rule_of c.args.store.now 0) c.decode-decoded.ensures)
+    c.misplaced_number.ensures ∙ ((first_misplaced _ c.decode-decoded.result.item c.decode-decoded.result.spans c.in_default.not-SiteItem).0 ∙ ap (rule_of c.args.store.now 0) c.decode-decoded.ensures)
 
 pub returns : goal.returns
 returns c =

@@ -27,7 +27,7 @@ pub returns-in_default : goal.returns-in_default
 returns-in_default c store =
     let other = ap (λ (x : Decoded). is_lower x.item) c.decode-decoded.ensures ∙ (sym c.is_lower.ensures ∙ c.if-is_lower.false) in
     c.misplaced_number.ensures
-    ∙ (later_misplaced store c.decode-decoded.result.item c.decode-decoded.result.spans other c.in_default.in_default-own.keys2 ∙ ap (rule_of store 1) c.decode-decoded.ensures)
+    ∙ (later_misplaced store c.decode-decoded.result.item c.decode-decoded.result.spans other c.in_default.not-RoofItem ∙ ap (rule_of store 1) c.decode-decoded.ensures)
 
 pub returns : goal.returns
 returns c store =

@@ -2,7 +2,6 @@ use Prim.Native.Nat.{◌≤◌}
 use lib.ListN.{length}
 use mathlib.Core.Bool.{true}
 use mathlib.Core.Path.{◌≡◌, sym, ◌∙◌}
-use borrow.Author.Tests.{not-true, not-false}
 use Rattle.site_items.specs.SiteItems.{site_length, map_site_item}
 use Rattle.site_items.proofs.Lengths.{sized_no, sized_yes, own_bytes}
 use native.Mathlib.Omega.{arith}

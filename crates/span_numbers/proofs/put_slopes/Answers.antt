@@ -1,4 +1,3 @@
-use Prim.Native.Nat.{◌-◌}
 use mathlib.Core.Path.{◌≡◌, refl}
 use Rattle.span_numbers.specs.SpanNumbers.{slopes_from}
 use Rattle.span_numbers.proofs.Stored.{span_stored}

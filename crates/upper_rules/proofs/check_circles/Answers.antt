@@ -1,14 +1,9 @@
-use Prim.Native.Nat.{ℕ, ◌-◌}
-use mathlib.Core.List.{List}
+use Prim.Native.Nat.{◌-◌}
 use mathlib.Core.Path.{refl, sym, ◌∙◌}
-use Rattle.circles.specs.Following.{upper_in, comes_back}
-use Rattle.figures.specs.Rules.{refused_if}
+use Rattle.upper_rules.proofs.check_circles.Invariants.{circles}
 use Rattle.pairs.proofs.Turns.{turn_refused, turn_next, turn_end}
 use native.Mathlib.Omega.{arith}
 use Rattle.upper_rules.proofs.check_circles.Goals as goal
-
-abbrev circles : List ℕ → ℕ → ℕ → ℕ
-circles upper n i = refused_if (comes_back (upper_in upper) n i) 17
 
 pub loop-i-init : goal.loop-i-init
 loop-i-init c = (omega arith, refl)

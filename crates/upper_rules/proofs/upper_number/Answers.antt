@@ -14,10 +14,6 @@ asked :
     (c : After-is_lower) → c.is_lower.result ≡ is_lower (item_at c.args.s.now c.args.i)
 asked c = c.is_lower.ensures ∙ ap (λ (p : List ℕ). is_lower (content p).item) c.part_at-p.ensures
 
-lower :
-    (c : After-may_stand_above) → is_lower (item_at c.args.s.now c.args.i) ≡ true
-lower c = sym (asked c) ∙ c.if-not-is_lower.false
-
 at :
     (c : After-may_stand_above) → c.upper_index.result ≡ upper_index (item_at c.args.s.now c.args.i)
 at c =
@@ -31,7 +27,7 @@ returns-then-not-is_lower c =
     not_lower _ _ _ (sym (asked (goal.at.returns-then-not-is_lower c).After-is_lower) ∙ c.if-not-is_lower.true)
 
 pub returns-then-may_stand_above : goal.returns-then-may_stand_above
-returns-then-may_stand_above c = sound_upper _ _ _ _ _ (lower (goal.at.returns-then-may_stand_above c).After-may_stand_above) (at (goal.at.returns-then-may_stand_above c).After-may_stand_above) c.may_stand_above.ensures c.if-may_stand_above.true
+returns-then-may_stand_above c = sound_upper _ _ _ _ _ (sym (asked (goal.at.returns-then-may_stand_above c).After-is_lower) ∙ c.if-not-is_lower.false) (at (goal.at.returns-then-may_stand_above c).After-may_stand_above) c.may_stand_above.ensures c.if-may_stand_above.true
 
 pub returns : goal.returns
-returns c = bad_upper _ _ _ _ _ (lower (goal.at.returns c).After-may_stand_above) (at (goal.at.returns c).After-may_stand_above) c.may_stand_above.ensures c.if-may_stand_above.false
+returns c = bad_upper _ _ _ _ _ (sym (asked (goal.at.returns c).After-is_lower) ∙ c.if-not-is_lower.false) (at (goal.at.returns c).After-may_stand_above) c.may_stand_above.ensures c.if-may_stand_above.false
