@@ -1,6 +1,5 @@
 use mathlib.Core.Path.{sym, ◌∙◌}
 use Rattle.pairs.proofs.Turns.{turn_refused, turn_next, turn_end, turn_start, pair_early, pair_past, pair_sound}
-use Prim.Native.Nat.{◌-◌}
 use native.Mathlib.Numerals.{add-one}
 use native.Mathlib.Omega.{arith}
 use Rattle.pairs.proofs.check_pairs.Goals as goal

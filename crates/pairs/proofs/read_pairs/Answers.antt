@@ -3,7 +3,6 @@ use mathlib.Core.Path.{◌≡◌, ◌∙◌}
 use Rattle.ceilings.proofs.Limits.{fitting}
 use Rattle.ceilings.specs.Ceilings.{fits}
 use Rattle.pairs.proofs.Turns.{too_short, outside, inside}
-use borrow.Author.Tests.{not-true, not-false}
 use lib.ListN.{length}
 use Rattle.pairs.proofs.read_pairs.Goals as goal
 use Rattle.pairs.proofs.read_pairs.Goals.{Else-not-s-ceiling}

@@ -13,7 +13,7 @@ placed :
 placed c = sym c.locate.ensures ∙ ap located_means c.in-At.is
 
 answered : (c : After-found_in) → c.found_in.result ≡ found c.args.store.now c.args.s.now c.args.index
-answered c = c.found_in.ensures ∙ found_placed _ _ _ _ (placed c)
+answered c = c.found_in.ensures ∙ found_placed _ _ _ _ (sym c.locate.ensures ∙ ap located_means c.in-At.is)
 
 pub found_in-requires : goal.found_in-requires
 found_in-requires c = (located_with _ _ _ _ _ (placed (goal.at.found_in-requires c).In-At), located_of _ _ _ _ _ (placed (goal.at.found_in-requires c).In-At))

@@ -17,7 +17,7 @@ lowers c = sym c.is_lower.ensures ∙ c.if-is_lower.true
 told : (c : After-lower_at) → LowerItem c.lower_at.result ≡ item_at c.args.s.now c.args.i
 told c =
     let e = ap (λ (p : List ℕ). (content p).item) c.part_at-p.ensures in
-    ap LowerItem c.lower_at.ensures ∙ (lower_fields _ (lowers c) ∙ e)
+    ap LowerItem c.lower_at.ensures ∙ (lower_fields _ (sym c.is_lower.ensures ∙ c.if-is_lower.true) ∙ e)
 
 pub part_at-p-requires : goal.part_at-p-requires
 part_at-p-requires c = (item_of _ _ c.requires.0).1.part

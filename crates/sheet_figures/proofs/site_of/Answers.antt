@@ -9,7 +9,7 @@ use Rattle.sheet_figures.proofs.site_of.Goals as goal
 
 pub returns-in_default : goal.returns-in_default
 returns-in_default c =
-    c.no_site.ensures ∙ (first_misplaced [] c.args.decoded.item c.args.decoded.spans c.in_default.keys2).1
+    c.no_site.ensures ∙ (first_misplaced [] c.args.decoded.item c.args.decoded.spans c.in_default.not-SiteItem).1
 
 pub site_from-requires : goal.site_from-requires
 unfolding job_refusal

@@ -1,5 +1,4 @@
 use mathlib.Core.Path.{◌≡◌, sym, ◌∙◌}
-use borrow.Author.Tests.{not-true, not-false}
 use Rattle.figures.specs.SiteRules.{altitude_refusal}
 use Rattle.map_sites.proofs.Kept.{map_high, map_outside, map_inside, place_in}
 use Rattle.map_sites.proofs.map.map_refusal.Goals as goal

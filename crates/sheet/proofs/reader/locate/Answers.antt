@@ -13,7 +13,7 @@ said c = sym c.verdict.ensures ∙ ap verdict_means c.in-Accepted.is
 
 here :
     (c : Else-n-index) → ItemIn c.args.s.now c.args.index
-here c = item_in _ _ _ _ (said c) _ (omega arith)
+here c = item_in _ _ _ _ (sym c.verdict.ensures ∙ ap verdict_means c.in-Accepted.is) _ (omega arith)
 
 pub returns-then-n-index : goal.returns-then-n-index
 returns-then-n-index c = place_none _ _ _ _ _ (said (goal.at.returns-then-n-index c).In-Accepted) (omega arith)
