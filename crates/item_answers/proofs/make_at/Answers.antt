@@ -12,7 +12,7 @@ pub returns-in-RoofFound : goal.returns-in-RoofFound
 returns-in-RoofFound c = record {
   value = rw c.in-RoofFound.is (c.made.ensures ∙ ap (answer_code c.args.item) c.make_in-answer.ensures.answer);
   out_after = rw c.in-RoofFound.is
-      (c.make_in-answer.ensures.written.0
+      (c.make_in-answer.ensures.written
       ∙ (slice_means c.make_in-answer.result c.args.found.national c.args.found.site c.args.found.roof c.args.code c.args.out.now
       ∙ ap (λ (x : Answer). slice_by x c.args.found.national c.args.found.site c.args.found.roof c.args.code c.args.out.now) c.make_in-answer.ensures.answer));
 }

@@ -32,7 +32,7 @@ list_accepted-requires c = (sym (told-accepted (goal.at.list_accepted-requires c
 pub returns-in-Refused : goal.returns-in-Refused
 unfolding listing_by
 returns-in-Refused c =
-    let w = all_written c.args.store.now c.args.sheet.now c.args.out.now _ _ _ (told-refused (goal.at.returns-in-Refused c).In-Refused) (omega arith) c.Put-refused.ensures in record { answer = w.0; written = w.1.0; within = w.1.1; free = tt }
+    let w = all_written c.args.store.now c.args.sheet.now c.args.out.now _ _ _ (told-refused (goal.at.returns-in-Refused c).In-Refused) (omega arith) c.put_refused.ensures in record { answer = w.0; written = w.1.0; within = w.1.1; free = tt }
 
 pub returns-in-Accepted : goal.returns-in-Accepted
 unfolding listing_by

@@ -37,9 +37,9 @@ pub loop-code-preserved : goal.loop-code-preserved
 loop-code-preserved c =
     let r = roof_of c.args.shape c.args.spans.now in (
       omega arith,
-      omega (arith, next_count c.args.national c.args.site r 0 c.loop-code.code, c.List-code.ensures.1, c.loop-code.invariant.1),
+      omega (arith, next_count c.args.national c.args.site r 0 c.loop-code.code, c.list_code-a.ensures.upper_bound, c.loop-code.invariant.1),
       search rules,
-      wrote_as (then c.loop-code.invariant.3 c.List-code.ensures.0) (next_rows c.args.national c.args.site r c.args.item c.loop-code.code),
+      wrote_as (then c.loop-code.invariant.3 c.list_code-a.ensures.wrote) (next_rows c.args.national c.args.site r c.args.item c.loop-code.code),
     )
 
 pub returns : goal.returns

@@ -1,8 +1,5 @@
 use Rattle.loads.proofs.Widths.{none_reaches, halved_out}
 use Rattle.standard.proofs.Cylindrical.{span_wide_enough}
-use Rattle.standard.specs.Cylindrical.{wide_enough}
-use Prim.Native.Nat.{◌-◌}
-use mathlib.Core.Bool.{true, false}
 use mathlib.Core.Path.{sym, ◌∙◌}
 use native.Mathlib.Omega.{arith}
 use Rattle.loads.proofs.lengths.least_width.Goals as goal
