@@ -3,6 +3,11 @@
 
 ghost use Rattle.std.specs.Prelude.{◌≡◌, length};
 
+use anyhow::{Context, Result};
+use std::io;
+use std::io::Read;
+use whole_reads::read_full;
+
 // A sheet's most bytes and one more, which tells a sheet that is too long.
 const SHEET_ROOM: usize = 16_385;
 
@@ -14,30 +19,23 @@ fn text_room() -> [u8; 267373]
 }
 
 // Whether the input has ended, where reading stopped before the room was full. It says so where it has not.
-fn input_ended() -> bool {
+fn input_ended(rt: &impl Eprint, input: &mut impl Read) -> io::Result<bool> {
     let mut next = [0u8; 1];
-    let more = libc::read(libc::STDIN_FILENO, &mut next);
-    if more < 0 {
-        os::fail(b"read");
-        return false;
+    if input.read(&mut next)? > 0 {
+        eprintln!(rt; "read: the input went on after its end")?;
+        return Ok(false);
     }
-    if more > 0 {
-        io::write_all(
-            libc::STDERR_FILENO,
-            b"read: the input went on after its end\n",
-        );
-        return false;
-    }
-    true
+    Ok(true)
 }
 
 // Nothing is listed from a sheet that was not read whole.
-fn main() {
-    let mut sheet = [0u8; 16385];
-    let n = io::read_full(libc::STDIN_FILENO, &mut sheet);
+fn main(rt: HostRuntime) -> Result<()> {
+    let mut input = rt.stdin();
+    let mut sheet = [0u8; SHEET_ROOM];
+    let n = read_full(&mut input, &mut sheet).context("read")?;
     if n < SHEET_ROOM {
-        if !input_ended() {
-            return;
+        if !input_ended(&rt, &mut input).context("read")? {
+            return Ok(());
         }
     }
     // The program has an empty store.
@@ -45,7 +43,5 @@ fn main() {
     let mut numbers = [0u32; 128];
     let mut text = text_room();
     let written = listing::list(&store, &sheet[..n], &mut numbers, &mut text);
-    if !io::write_all(libc::STDOUT_FILENO, &text[..written]) {
-        os::fail(b"write");
-    }
+    rt.write_all(&text[..written]).context("write")
 }
