@@ -6,7 +6,7 @@ ghost use Rattle.std.specs.Prelude.{◌≡◌, length};
 use anyhow::{Context, Result};
 use std::io;
 use std::io::Read;
-use whole_reads::read_full;
+use program_inputs::read_full;
 
 // A sheet's most bytes and one more, which tells a sheet that is too long.
 const SHEET_ROOM: usize = 16_385;

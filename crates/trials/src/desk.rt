@@ -1,5 +1,4 @@
 // The quote desk's reading of one sheet, with a store, beside a terminal's: the verdict, where each item lies, and each item.
-use check::same;
 use sheet::{Caller, Located, Verdict};
 
 // The indexes that are asked for: those of the fullest sheet and two more.
@@ -66,10 +65,8 @@ pub fn inside(sheet: &[u8]) -> bool {
 
 // Whether an index gives the desk what it gives a terminal.
 fn same_item(store: &[u32], sheet: &[u8], index: usize) -> bool {
-    let part = same(
-        sheet::item(store, sheet, Caller::Desk, index),
-        sheet::item(store, sheet, Caller::Terminal, index),
-    );
+    let part = sheet::item(store, sheet, Caller::Desk, index)
+        == sheet::item(store, sheet, Caller::Terminal, index);
     let desk = place_of(store, sheet, Caller::Desk, index);
     equal(desk, place_of(store, sheet, Caller::Terminal, index)) & part
 }

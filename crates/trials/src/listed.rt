@@ -31,7 +31,7 @@ fn agrees(store: &[u32], sheet: &[u8], text: &[u8], room: &mut [u8]) -> bool
 {
     let mut numbers = [0; listing::NUMBERS];
     let n = listing::list(store, sheet, &mut numbers, room);
-    check::same(&room[..n], text)
+    &room[..n] == text
 }
 
 // How the sheet compares with its stored text, which is the listing with an empty store.

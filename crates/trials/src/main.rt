@@ -10,6 +10,14 @@ mod report;
 
 ghost use Rattle.std.specs.Prelude.{◌≡◌, length};
 
+use anyhow::{Context, Result};
+use program_inputs::{argument, read_full};
+use std::fs;
+use std::io::Read;
+
+// Room for any file's name.
+const PATH_ROOM: usize = 4_096;
+
 // Room for the file.
 fn file_room() -> [u8; 524288]
     ensures { 524288 ≡ length result }
@@ -32,36 +40,21 @@ fn text_room() -> [u8; 65536]
 }
 
 // Reads the open file in one pass, compares its records and writes what they came to.
-fn compare_file(fd: i32) {
+fn compare_file(rt: &impl Print, file: &mut impl Read) -> Result<()> {
     let mut bytes = file_room();
-    let n = io::read_full(fd, &mut bytes);
+    let n = read_full(file, &mut bytes).context("read")?;
     let mut next = [0u8; 1];
-    let more = libc::read(fd, &mut next);
-    if more < 0 {
-        os::fail(b"read");
-        return;
-    }
+    let more = file.read(&mut next).context("read")?;
     let mut room = list_room();
     let mut out = text_room();
     let written = records::compare(&bytes[..n], more > 0, &mut room, &mut out);
-    if !io::write_all(libc::STDOUT_FILENO, &out[..written]) {
-        os::fail(b"write");
-    }
+    rt.write_all(&out[..written]).context("write")
 }
 
 // Opens the file that the argument names, or says why it can't.
-fn main() {
-    let mut path = io::buffer();
-    let n = os::arg(1, &mut path);
-    if os::errno() != 0 {
-        os::fail(b"file name");
-        return;
-    }
-    let fd = os::open_read(&path[..n]);
-    if fd < 0 {
-        os::fail(&path[..n]);
-        return;
-    }
-    compare_file(fd);
-    libc::close(fd);
+fn main(rt: HostRuntime) -> Result<()> {
+    let mut room = [0u8; PATH_ROOM];
+    let name = argument(&rt, 1, &mut room).context("file name")?;
+    let mut file = fs::open(&rt, name).context(name)?;
+    compare_file(&rt, &mut file)
 }

@@ -2,6 +2,7 @@
 ghost use Rattle.std.specs.Prelude.{◌≤◌, length};
 
 use crate::listed::Outcome;
+use itoa::Buffer;
 
 // Enough room for a line on a record that differs and the last three lines.
 const LAST_LINES: usize = 208;
@@ -14,7 +15,9 @@ fn put(out: &mut [u8], at: usize, text: &[u8]) -> usize
     if out.len() - at < text.len() {
         return at;
     }
-    bytes::copy(text, &mut out[at..]) + at
+    let end = at + text.len();
+    out[at..end].copy_from_slice(text);
+    end
 }
 
 // Puts a word and a number in decimal.
@@ -22,10 +25,9 @@ fn put_count(out: &mut [u8], at: usize, word: &[u8], count: usize) -> usize
     requires { at ≤ length out.old }
     ensures { result ≤ length out.new }
 {
-    let mut digits = [0u8; 20];
-    let k = io::decimal(count as u64, &mut digits);
+    let mut digits = Buffer::new();
     let after = put(out, at, word);
-    put(out, after, &digits[..k])
+    put(out, after, digits.format(count).as_bytes())
 }
 
 // Puts a line of a word and a record's number.

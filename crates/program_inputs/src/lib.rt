@@ -1,10 +1,13 @@
-// Reading an input whole, into room that the caller lends.
+// What a program is given, in room that the caller lends: its arguments, and an input read whole.
 #![tactic(auto)]
+
+mod arguments;
 
 ghost use Rattle.std.specs.Prelude.{◌<◌, length, take, IfOk};
 ghost use Rattle.std.specs.Io.{ReadsAtMost};
 ghost use Rattle.std.specs.Io.KnownBytes.{Consumes, IsAtEnd};
 
+pub use arguments::{ArgumentError, argument};
 use std::io;
 use std::io::Read;
 
