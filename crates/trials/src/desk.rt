@@ -79,8 +79,7 @@ fn no_item(store: &[u32], sheet: &[u8], index: usize) -> bool {
 
 // Whether each index gives what it must.
 fn items_agree(store: &[u32], sheet: &[u8], inside: bool) -> bool {
-    let mut i = 0;
-    while i < INDEXES {
+    for i in 0..INDEXES {
         let agrees = if inside {
             same_item(store, sheet, i)
         } else {
@@ -89,7 +88,6 @@ fn items_agree(store: &[u32], sheet: &[u8], inside: bool) -> bool {
         if !agrees {
             return false;
         }
-        i += 1;
     }
     true
 }
