@@ -23,15 +23,13 @@ fn place(count: u64, region: u8, zone: u8, altitude: u16) -> u64 {
 
 // Regions 0 to 9, in each zones 0 to 6, in each altitudes 0 to 1,501.
 pub fn places(mut count: u64) -> u64 {
-    let mut i: u32 = 0;
-    while i < 105_140 {
+    for i in 0..105_140u32 {
         count = place(
             count,
             byte(i / 10_514),
             byte(i / 1_502 % 7),
             (i % 1_502) as u16,
         );
-        i += 1;
     }
     count
 }

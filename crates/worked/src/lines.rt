@@ -136,7 +136,13 @@ fn behind_day(text: &[u8], at: usize) -> usize
 }
 
 // One line: comments and empty lines say nothing. One that can't be read goes to standard error.
-fn line(tally: Tally, store: [u32; STORE_NUMBERS], text: &[u8], at: usize) -> Tally
+fn line(
+    errors: &impl Print,
+    tally: Tally,
+    store: [u32; STORE_NUMBERS],
+    text: &[u8],
+    at: usize,
+) -> Tally
     requires { at < length text.now }
 {
     let first = text[at];
@@ -148,7 +154,7 @@ fn line(tally: Tally, store: [u32; STORE_NUMBERS], text: &[u8], at: usize) -> Ta
     let from = behind_day(text, at);
     let word = word_of(text, from);
     if (end <= from) | !readable(word, text, from) {
-        io::write_all(libc::STDERR_FILENO, &text[at..end]);
+        let _ = errors.write_all(&text[at..end]);
         t.lines = compared(tally.lines, true);
         return t;
     }
@@ -157,11 +163,11 @@ fn line(tally: Tally, store: [u32; STORE_NUMBERS], text: &[u8], at: usize) -> Ta
 }
 
 // Every line, under the store of the text's sets.
-pub fn lines(mut tally: Tally, text: &[u8]) -> Tally {
+pub fn lines(errors: &impl Print, mut tally: Tally, text: &[u8]) -> Tally {
     let store = store_of(text);
     let mut at = 0;
     while at < text.len() {
-        tally = line(tally, store, text, at);
+        tally = line(errors, tally, store, text, at);
         at = behind(text, at, b'\n');
     }
     tally

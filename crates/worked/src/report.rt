@@ -1,6 +1,6 @@
 // The counts as text.
 use counts::DIFFERENT;
-use stored_lines::behind;
+use std::{fmt, io};
 use worked_roofs::Tally;
 
 fn counts_of(t: Tally) -> [u64; 39] {
@@ -52,24 +52,33 @@ fn counts_of(t: Tally) -> [u64; 39] {
     ]
 }
 
+// A text with a # for each count.
+#[derive(Clone, Copy)]
+struct Filled<'a> {
+    counts: [u64; 39],
+    text: &'a str,
+}
+
 // The text, with the counts in turn for each #, the last of which ends it.
-fn filled(counts: [u64; 39], text: &[u8]) {
-    let mut i = 0;
-    let mut at = 0;
-    while at < text.len() {
-        let end = behind(text, at, b'#');
-        io::write_all(libc::STDOUT_FILENO, &text[at..end - 1]);
-        io::print_decimal(libc::STDOUT_FILENO, counts[i % 39]);
-        i += 1;
-        at = end;
+impl fmt::Display for Filled<'_> {
+    fn fmt<W: fmt::Write>(&self, f: &mut fmt::Formatter<W>) -> fmt::Result {
+        for (words, count) in self.text.split('#').zip(self.counts.iter()) {
+            write!(f, "{words}{count}")?;
+        }
+        Ok(())
     }
-    io::write_all(libc::STDOUT_FILENO, b"\n");
+}
+
+// Writes the text, filled, and the end of its last line.
+fn filled(rt: &impl Print, counts: [u64; 39], text: &str) -> io::Result<()> {
+    println!(rt; "{}", Filled { counts, text })
 }
 
 // The whole report.
-pub fn report(tally: Tally) {
+pub fn report(rt: &impl Print, tally: Tally) -> io::Result<()> {
     filled(
+        rt,
         counts_of(tally),
-        b"LINES # UNREADABLE #\nFIGURES # DIFFERENT #\nARRANGEMENTS # SEGMENTS # DIFFERENT #\nSEGMENT LOADS AS BEFORE # LOWER BY 1 # LOWER BY 2 # OTHERWISE # WORST DROP #\nREFUSALS # DIFFERENT #\nREADINGS # DIFFERENT # TOO LOW # TOO FAR # FALLING #\nWORST DISTANCE # THOUSANDTHS\nLOADS READ AS BEFORE # LOWER BY 1 # LOWER BY 2 # OTHERWISE # WORST DROP #\nFORCES # DIFFERENT #\nGROUND LOADS # DIFFERENT #\nSETS IN USE # DIFFERENT #\nSTORES ACCEPTED # DIFFERENT # REFUSED # DIFFERENT #\nSETS ADDED # DIFFERENT # REFUSED # DIFFERENT #",
-    );
+        "LINES # UNREADABLE #\nFIGURES # DIFFERENT #\nARRANGEMENTS # SEGMENTS # DIFFERENT #\nSEGMENT LOADS AS BEFORE # LOWER BY 1 # LOWER BY 2 # OTHERWISE # WORST DROP #\nREFUSALS # DIFFERENT #\nREADINGS # DIFFERENT # TOO LOW # TOO FAR # FALLING #\nWORST DISTANCE # THOUSANDTHS\nLOADS READ AS BEFORE # LOWER BY 1 # LOWER BY 2 # OTHERWISE # WORST DROP #\nFORCES # DIFFERENT #\nGROUND LOADS # DIFFERENT #\nSETS IN USE # DIFFERENT #\nSTORES ACCEPTED # DIFFERENT # REFUSED # DIFFERENT #\nSETS ADDED # DIFFERENT # REFUSED # DIFFERENT #",
+    )
 }
