@@ -54,13 +54,13 @@ fn counts_of(t: Tally) -> [u64; 39] {
 
 // A text with a # for each count.
 #[derive(Clone, Copy)]
-struct Filled<'a> {
+struct FilledText<'a> {
     counts: [u64; 39],
     text: &'a str,
 }
 
 // The text, with the counts in turn for each #, the last of which ends it.
-impl fmt::Display for Filled<'_> {
+impl fmt::Display for FilledText<'_> {
     fn fmt<W: fmt::Write>(&self, f: &mut fmt::Formatter<W>) -> fmt::Result {
         for (words, count) in self.text.split('#').zip(self.counts.iter()) {
             write!(f, "{words}{count}")?;
@@ -71,7 +71,7 @@ impl fmt::Display for Filled<'_> {
 
 // Writes the text, filled, and the end of its last line.
 fn filled(rt: &impl Print, counts: [u64; 39], text: &str) -> io::Result<()> {
-    println!(rt; "{}", Filled { counts, text })
+    println!(rt; "{}", FilledText { counts, text })
 }
 
 // The whole report.
