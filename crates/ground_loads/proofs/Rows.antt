@@ -1,6 +1,6 @@
 -- Table C.1: every row is in its bounds, its load is the smallest whole number not below its expression, and never falls as the
 -- altitude rises.
-use Prim.Native.Nat.{ℕ, zero, suc, ◌+◌, ◌-◌, ◌*◌, ◌≤◌, ◌<◌}
+use Prim.Native.Nat.{ℕ, zero, suc, ◌+◌, ◌*◌, ◌≤◌, ◌<◌}
 use mathlib.Core.Bool.{Bool}
 use mathlib.Core.Path.{◌≡◌, sym}
 use lib.Dec.{T, leb, leb→le}

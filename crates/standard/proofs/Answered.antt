@@ -14,7 +14,7 @@ use Rattle.figures.specs.Store.{store_refusal, day_refusal}
 use Rattle.figures.specs.declared.national.National.{National}
 use Rattle.figures.specs.declared.site.Site.{Site}
 use Rattle.figures.specs.declared.roof.Roof.{Roof}
-use Rattle.figures.proofs.Stores.{Accepted, accepted, in_use_in}
+use Rattle.figures.proofs.Stores.{accepted, in_use_in}
 use Rattle.standard.specs.Answers.{Answer, value, refused, after_rules, after_code, national_for, station_answer, load_in, load_answer}
 use Rattle.standard.specs.Arrangements.{exists, end_of, load_at, exact_at, NearExact}
 use Rattle.standard.specs.Bounds.{FiguresIn}

@@ -169,6 +169,7 @@ module _ (S : ℕ → Stretch) (p : ℕ) where
 
   pub covered : (n : ℕ) → 0 < n → p ≤ start_of S n → Held n
   unfolding start_of
+  covered zero pos h = elim pos [ ]
   covered (suc zero) pos h = here 0 (omega arith) h
   covered (suc (suc n)) pos h =
       elim (dec_le (start_of S (suc n)) p) [
@@ -211,6 +212,7 @@ module _ (S : ℕ → Stretch) (p : ℕ) where
     -- Where the one that reads it does not hold the station, the greatest is 0, and so is the reading of each that does.
     pub one_reads : (n : ℕ) → 0 < n → p ≤ start_of S n → ReadHeld n
     unfolding reading_at
+    one_reads zero pos h = elim pos [ ]
     one_reads (suc n) pos h =
         let w = is_read n in
         go w (holds (start_of S w.at) (S w.at).extent p) refl
@@ -259,6 +261,7 @@ module _ (S : ℕ → Stretch) (p : ℕ) where
   -- Where the one that gives it does not hold the station, the greatest is 0, and so is the load of each that does.
   pub one_exact : (n : ℕ) → ((i : ℕ) → i < n → Readable (S i)) → 0 < n → p ≤ start_of S n → ExactHeld n
   unfolding exact_reading_at Same Below
+  one_exact zero f pos h = elim pos [ ]
   one_exact (suc n) f pos h =
       let w = is_exact n in
       go w (holds (start_of S w.at) (S w.at).extent p) refl

@@ -3,7 +3,7 @@ use Prim.Native.Nat.{ℕ}
 use mathlib.Core.List.{List}
 use mathlib.Core.Path.{◌≡◌, refl, ap}
 use Rattle.figures.specs.Refusals.{figures_refusal}
-use Rattle.figures.specs.Store.{InUse, begun_number, day_refusal, begun_figures, figures_in_use, SameFor}
+use Rattle.figures.specs.Store.{begun_number, day_refusal, begun_figures, figures_in_use, SameFor}
 use Rattle.figures.specs.declared.national.National.{National}
 use Rattle.figures.specs.declared.site.JobDay.{JobDay}
 use Rattle.figures.specs.declared.site.Site.{Site}

@@ -1,6 +1,6 @@
 -- Kinds 4 and 9: the stretches of a valley's drift are bare roof, its two slopes and bare roof, and rise with sk; any other code has
 -- kind 4's. No law asks that the code exists.
-use Prim.Native.Nat.{ℕ, zero, suc, ◌+◌, ◌-◌, ◌*◌, ◌≤◌, ◌<◌}
+use Prim.Native.Nat.{ℕ, zero, suc, ◌+◌, ◌*◌, ◌≤◌, ◌<◌}
 use mathlib.Core.Path.{◌≡◌, refl}
 use mathlib.Core.Bool.{Bool, true, false, cond, not, ◌||◌}
 use mathlib.Core.List.{List}

@@ -1,0 +1,16 @@
+use native.Mathlib.Omega.{arith}
+use mathlib.Core.Path.{sym, ap, ◌∙◌}
+use Rattle.roof_slopes.specs.Slopes.{slope_means}
+use Rattle.stepped_roofs.proofs.Uppers.{one_slope, right_side, left_side}
+use Rattle.stepped_roofs.proofs.adjacent_slope.Goals as goal
+
+pub returns-in_default : goal.returns-in_default
+returns-in_default c = c.slope_of.ensures ∙ one_slope _ _ (sym c.slope_of-right.ensures ∙ ap slope_means c.in_default.is)
+
+pub returns-then-side-eq1 : goal.returns-then-side-eq1
+returns-then-side-eq1 c =
+    c.slope_of-right.ensures ∙ right_side _ _ _ _ (sym c.slope_of-right.ensures ∙ ap slope_means c.in-Found.is) (omega (arith, c.if-side-eq1.true))
+
+pub returns : goal.returns
+returns c =
+    c.slope_of-2.ensures ∙ left_side _ _ _ _ (sym c.slope_of-right.ensures ∙ ap slope_means c.in-Found.is) (λ z. c.if-side-eq1.false (omega arith))
