@@ -4,9 +4,9 @@
 ghost use Rattle.std.specs.Prelude.{◌≡◌, length};
 
 use anyhow::{Context, Result};
+use program_inputs::read_full;
 use std::io;
 use std::io::Read;
-use program_inputs::read_full;
 
 // A sheet's most bytes and one more, which tells a sheet that is too long.
 const SHEET_ROOM: usize = 16_385;
