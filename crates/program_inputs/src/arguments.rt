@@ -1,4 +1,6 @@
 // The arguments that the program was started with.
+ghost use Rattle.std.specs.Prelude.{◌≤◌, length, IfOk};
+
 use std::env::{Env, FillError};
 use std::error::Error;
 use std::{fmt, str};
@@ -28,7 +30,9 @@ pub fn argument<'a>(
     rt: &impl Env,
     number: usize,
     room: &'a mut [u8],
-) -> Result<&'a str, ArgumentError> {
+) -> Result<&'a str, ArgumentError>
+    ensures { IfOk result (λ text. length text.now ≤ length room.old) }
+{
     match rt.arg(number, room) {
         Ok(n) => str::from_utf8(&room[..n]).map_err(|_| ArgumentError::NotText),
         Err(FillError::NotPresent) => Err(ArgumentError::Missing),
@@ -39,6 +43,7 @@ pub fn argument<'a>(
 #[cfg(test)]
 mod tests {
     use super::*;
+    use std::alloc::AllocError;
 
     // One argument of each sort.
     struct Given;
@@ -81,5 +86,19 @@ mod tests {
             argument(&Given, 0, &mut room[..1]),
             Err(ArgumentError::TooLong)
         );
+    }
+
+    #[test]
+    fn says_each_reason(rt: HostRuntime) -> Result<(), AllocError> {
+        let reasons = [
+            (ArgumentError::Missing, "there is no such argument"),
+            (ArgumentError::TooLong, "the argument is too long"),
+            (ArgumentError::NotText, "the argument is not text"),
+        ];
+        for (reason, text) in reasons {
+            let said = format!(in rt.alloc(); "{reason}")?;
+            assert_eq!(rt; said.as_str(), text);
+        }
+        Ok(())
     }
 }
