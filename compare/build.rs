@@ -16,5 +16,5 @@ fn main() {
 
 fn default_folder() -> PathBuf {
     let package = env::var_os("CARGO_MANIFEST_DIR").expect("cargo sets the package folder");
-    PathBuf::from(package).join("../target/staticlib")
+    PathBuf::from(package).join("../crates/terminal/out")
 }

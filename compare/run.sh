@@ -3,5 +3,5 @@
 # Arguments: seed and number of sheets, both optional.
 set -eu
 cd "$(dirname "$0")/.."
-rt staticlib terminal
+(cd crates/terminal && rt lib)
 CARGO_TARGET_DIR=target/compare cargo run --release --offline --manifest-path compare/Cargo.toml -- "$@"

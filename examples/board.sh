@@ -7,9 +7,9 @@ set -eu
 cd "$(dirname "$0")/.."
 
 if [ "${NO_STATICLIB:-0}" != 1 ]; then
-    rt staticlib terminal
+    (cd crates/terminal && rt lib)
 fi
-archive=target/staticlib/libterminal.a
+archive=crates/terminal/out/libterminal.a
 built=target/examples
 mkdir -p "$built"
 size -A "$archive" | awk '

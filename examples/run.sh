@@ -6,9 +6,9 @@ set -eu
 cd "$(dirname "$0")/.."
 
 if [ "${NO_STATICLIB:-0}" != 1 ]; then
-    rt staticlib terminal
+    (cd crates/terminal && rt lib)
 fi
-TERMINAL_LIB_DIR=$(cd "${TERMINAL_LIB_DIR:-target/staticlib}" && pwd)
+TERMINAL_LIB_DIR=$(cd "${TERMINAL_LIB_DIR:-crates/terminal/out}" && pwd)
 export TERMINAL_LIB_DIR
 
 built=target/examples

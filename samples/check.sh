@@ -1,10 +1,10 @@
 #!/usr/bin/env bash
 # Gives each sample to a program on standard input and compares what it prints with the stored listing.
-# Argument: the program as seen from the repository root, target/bin/snowlist where none is named.
+# Argument: the program as seen from the repository root, crates/snowlist/out/snowlist where none is named.
 set -eu
 cd "$(dirname "$0")/.."
 
-program=${1:-target/bin/snowlist}
+program=${1:-crates/snowlist/out/snowlist}
 if ! command -v "$program" >/dev/null; then
     echo "no program $program" >&2
     exit 1
