@@ -17,7 +17,6 @@ place c = omega arith
 
 here : (c : In-loop-k) → get_or c.roof_order-roofs.result c.loop-k.k 0 ≡ get_or (roof_order c.args.sheet.now c.args.n) c.loop-k.k 0
 here c =
-    let c = c in
     roof_in_table _ _ _ c.requires.0 _ (place c) _ c.roof_order-roofs.ensures
 
 few : (c : In-loop-k) → c.args.n ≤ 32
@@ -44,7 +43,7 @@ unfolding roofs_rows
 loop-k-init c = (none _ _, omega arith, omega arith, search rules)
 
 pub bounds-roofs-k : goal.bounds-roofs-k
-bounds-roofs-k c = omega (arith, few (goal.at.bounds-roofs-k c).In-loop-k-unread)
+bounds-roofs-k c = omega (arith, few_items _ _ _ c.requires.0)
 
 pub overflow_cast-i : goal.overflow_cast-i
 overflow_cast-i c = omega (arith, here (goal.at.overflow_cast-i c).In-loop-k, below (goal.at.overflow_cast-i c).In-loop-k, few (goal.at.overflow_cast-i c).In-loop-k)

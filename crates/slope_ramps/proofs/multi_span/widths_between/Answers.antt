@@ -1,7 +1,6 @@
 use mathlib.Core.Path.{◌≡◌, ap}
 use Rattle.figures.specs.declared.roof.Slope.{Slope}
 use Rattle.figures.specs.RoofRules.{slope_of}
-use Prim.Native.Nat.{◌-◌}
 use Rattle.slope_ramps.proofs.Slopes.{widths_more}
 use native.Mathlib.Omega.{arith}
 use Rattle.slope_ramps.proofs.multi_span.widths_between.Goals as goal
