@@ -5,7 +5,7 @@ use mathlib.Core.Path.{◌≡◌, sym, ap, ◌∙◌}
 use borrow.Author.Tests.{le-leb, lt-leb}
 use native.Mathlib.Omega.{arith}
 use Rattle.figures.proofs.Stores.{store_kept, none_yet, one_begun}
-use Rattle.figures.specs.Store.{set_count, set_at, store_refusal, InUse, last_begun, begun_number, begun_figures}
+use Rattle.figures.specs.Store.{set_count, set_at, store_refusal, last_begun, begun_number, begun_figures}
 use Rattle.figures.specs.declared.national.NationalSet.{NationalSet}
 
 -- there is no set; the first has not begun; the first has

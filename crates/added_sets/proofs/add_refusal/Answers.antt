@@ -1,7 +1,6 @@
 use Prim.Native.Nat.{ℕ}
 use mathlib.Core.Bool.{cond}
 use mathlib.Core.Path.{◌≡◌, sym, ◌∙◌}
-use borrow.Author.Tests.{not-true, not-false}
 use Rattle.figures.proofs.Stores.{StoreKept, store_kept}
 use Rattle.added_sets.specs.Adding.{add_refusal}
 use Rattle.added_sets.proofs.Judged.{not_six, no_store, full, by_set}

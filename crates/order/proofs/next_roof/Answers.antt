@@ -1,4 +1,3 @@
-use Prim.Native.Nat.{◌-◌}
 use mathlib.Core.Path.{refl, sym, ◌∙◌}
 use Rattle.circles.specs.Following.{upper_in}
 use Rattle.order.specs.Order.{marked_in, ready, next_roof}

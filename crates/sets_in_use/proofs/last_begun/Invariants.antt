@@ -1,5 +1,5 @@
 use Rattle.figures.specs.Store.{set_at, last_begun}
-use Prim.Native.Nat.{◌-◌, ◌≤◌}
+use Prim.Native.Nat.{◌≤◌}
 use mathlib.Core.Path.{◌≡◌}
 use Rattle.sets_in_use.proofs.last_begun.Given as goal
 

@@ -1,5 +1,4 @@
 use Prim.Native.Nat.{◌≤◌, ◌-◌}
-use Rattle.second.proofs.station.load_read.Tie as tie
 use Rattle.second.proofs.station.load_read.Given as goal
 
 abbrev pub invariant-loop-i : goal.invariant-loop-i
