@@ -31,7 +31,7 @@ ground_answer region zone altitude =
     (Refused (map_refusal region zone altitude))
 
 -- the ground load of an item's site: "that whole number is sk"
-abbrev pub sk_of : Ground → ℕ → ℕ
+abbrev pub sk_of : (ground : Ground) → ℕ → ℕ
 sk_of (Given sk) altitude = sk
 sk_of (OnMap region zone) altitude = ground_load region zone altitude
 

@@ -22,7 +22,7 @@ unfoldable pub site_sized : ℕ → List ℕ → Decoded → Decoded
 site_sized own p d = cond (site_length own (length p)) d (malformed 4)
 
 -- a site with its ground load, whose fields from Ce on begin at a byte: Ce (16), Ct (16), Cesl (16), situation (8), altitude (16)
-abbrev pub site_data_at : List ℕ → ℕ → Ground → SiteData
+abbrev pub site_data_at : List ℕ → ℕ → (ground : Ground) → SiteData
 site_data_at p at ground =
     record {
       ground = ground;

@@ -1,6 +1,5 @@
 use Rattle.std.proofs.Common.{◌≡◌, ℕ, ◌<◌, List, Bool, T, eqb, get_or, arith}
 use lib.Dec.{eqb→eq}
-use Rattle.standard.proofs.Sine.{sine_most}
 use Rattle.standard.specs.Sine.{sine_reference, sine_entry}
 use Rattle.rounding.proofs.Tested.{every, every_at}
 use Rattle.sines.proofs.sine.Reads as reads

@@ -1,10 +1,7 @@
 use Rattle.standard.proofs.Cylindrical.{drift_bare, bare_ends}
 use Rattle.ramps.proofs.Stretches.{whole_ramp, even_ramp, no_load_lem}
-use Rattle.rounding.specs.Load.{Load}
 use Rattle.standard.specs.Cylindrical.{arch_drift, half_load, peak_load}
 use Rattle.standard.specs.Stretch.{no_load}
-use Rattle.standard.specs.Units.{largest_position}
-use Prim.Native.Nat.{◌≤◌}
 use native.Mathlib.Omega.{arith}
 use Rattle.drift_ramps.proofs.cylindrical.drift_arch.Goals as goal
 
