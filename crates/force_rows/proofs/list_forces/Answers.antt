@@ -1,7 +1,6 @@
 use Rattle.force_rows.proofs.Rows.{no_forces}
 use Rattle.standard.specs.Codes.{forces_in}
 use Rattle.figures.specs.RoofRules.{kind_of}
-use borrow.Author.Tests.{not-true}
 use mathlib.Core.Bool.{false}
 use mathlib.Core.Path.{◌≡◌, sym, ◌∙◌}
 use Rattle.force_rows.specs.Rows.{force_rows}

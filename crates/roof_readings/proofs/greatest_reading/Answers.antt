@@ -1,6 +1,6 @@
 use native.Mathlib.Numerals.{add-one}
 use mathlib.Core.Path.{◌≡◌, refl}
-use Prim.Native.Nat.{◌≤◌, ◌-◌}
+use Prim.Native.Nat.{◌≤◌}
 use Rattle.standard.specs.Units.{largest_position}
 use Rattle.standard.specs.Stretch.{start_of, greatest}
 use Rattle.segments.proofs.Starts.{next_start, start_most}

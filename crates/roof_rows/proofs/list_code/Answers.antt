@@ -1,6 +1,5 @@
 use Rattle.standard.specs.Arrangements.{exists}
 use Rattle.figures.specs.RoofRules.{roof_of}
-use borrow.Author.Tests.{not-true, not-false}
 use mathlib.Core.Path.{◌≡◌, sym, ◌∙◌}
 use Rattle.roof_rows.proofs.Lines.{no_rows}
 use Rattle.text.proofs.Writing.{none, wrote_as}

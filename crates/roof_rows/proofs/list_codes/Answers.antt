@@ -1,6 +1,6 @@
 use Rattle.figures.specs.RoofRules.{roof_of, kind_of, span_count}
 use mathlib.Core.Path.{◌≡◌, ap, ◌∙◌}
-use Prim.Native.Nat.{◌+◌, ◌-◌, ◌≤◌}
+use Prim.Native.Nat.{◌+◌, ◌≤◌}
 use Rattle.roof_rows.proofs.Counts.{spans_few, rows_within, last_low, rows_to_last}
 use Rattle.roof_rows.specs.Rows.{codes_rows, row_counts}
 use Rattle.roof_rows.proofs.Lines.{next_rows, next_count}

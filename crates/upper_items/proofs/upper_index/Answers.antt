@@ -1,7 +1,5 @@
-use mathlib.Core.Bool.{true}
-use mathlib.Core.Path.{◌≡◌, sym, ◌∙◌}
+use mathlib.Core.Path.{sym, ◌∙◌}
 use Rattle.items.specs.Items.{content}
-use Rattle.item_forms.specs.Forms.{is_lower}
 use Rattle.items.proofs.Lowers.{lower_length}
 use Rattle.upper_items.proofs.Lowers.{upper_byte, no_upper}
 use native.Mathlib.Omega.{arith}

@@ -1,4 +1,3 @@
-use Prim.Native.Nat.{◌-◌}
 use mathlib.Core.Path.{refl, sym, ◌∙◌}
 use Rattle.upper_rules.proofs.check_circles.Invariants.{circles}
 use Rattle.pairs.proofs.Turns.{turn_refused, turn_next, turn_end}

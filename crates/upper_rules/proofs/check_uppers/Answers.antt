@@ -1,4 +1,3 @@
-use Prim.Native.Nat.{◌-◌}
 use mathlib.Core.Path.{sym, ◌∙◌}
 use Rattle.pairs.proofs.Turns.{turn_refused, turn_next, turn_end, turn_start}
 use native.Mathlib.Omega.{arith}

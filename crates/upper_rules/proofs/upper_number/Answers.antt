@@ -1,8 +1,6 @@
 use Prim.Native.Nat.{ℕ}
-use mathlib.Core.Bool.{true}
 use mathlib.Core.List.{List}
 use mathlib.Core.Path.{◌≡◌, sym, ap, ◌∙◌}
-use borrow.Author.Tests.{not-true, not-false}
 use Rattle.items.specs.Items.{content}
 use Rattle.item_forms.specs.Forms.{is_lower}
 use Rattle.upper_items.specs.Uppers.{item_at, upper_index}

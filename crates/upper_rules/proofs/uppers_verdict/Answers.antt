@@ -1,5 +1,4 @@
 use mathlib.Core.Path.{sym, ap, ◌∙◌}
-use borrow.Author.Tests.{not-true}
 use Rattle.pairs.specs.Pairs.{verdict_means}
 use Rattle.upper_rules.proofs.Passed.{none_lower, site_alone, uppers_refused, uppers_circles}
 use Rattle.upper_rules.proofs.uppers_verdict.Goals as goal

@@ -1,8 +1,6 @@
 use Rattle.valley_drifts.proofs.Valleys.{bare_before, ramp_up, ramp_down, bare_after}
-use Prim.Native.Nat.{ℕ, ◌+◌, ◌*◌, ◌≤◌, ◌<◌}
+use Prim.Native.Nat.{◌<◌}
 use native.Mathlib.Omega.{arith}
-use Rattle.figures.specs.Bounds.{SlopeIn}
-use Rattle.figures.specs.RoofRules.{slope_of}
 use Rattle.valley_drifts.proofs.valley_ramp.Goals as goal
 
 pub valley_load-requires : goal.valley_load-requires

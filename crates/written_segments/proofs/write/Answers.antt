@@ -1,6 +1,5 @@
 use native.Mathlib.Numerals.{add-one}
 use mathlib.Core.Path.{◌≡◌, refl, ◌∙◌}
-use Prim.Native.Nat.{◌-◌}
 use Rattle.figures.specs.RoofRules.{roof_of}
 use Rattle.figures.proofs.Accepted.{site_in, shape_in}
 use Rattle.segments.proofs.Grounds.{grounded}

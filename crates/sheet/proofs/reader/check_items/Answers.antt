@@ -1,5 +1,4 @@
 use mathlib.Core.Path.{◌≡◌, sym, ◌∙◌}
-use Prim.Native.Nat.{◌-◌}
 use Rattle.sheet.specs.Sheet.{item_number}
 use Rattle.pairs.proofs.Turns.{turn_refused, turn_next, turn_end, turn_start}
 use native.Mathlib.Omega.{arith}
