@@ -1,5 +1,4 @@
 use mathlib.Core.Path.{refl, sym, ◌∙◌}
-use borrow.Author.Tests.{not-true, not-false}
 use Rattle.standard.proofs.Answered.{code_refuses, code_passes}
 use Rattle.standard.specs.Answers.{make_in}
 use Rattle.standard.specs.Arrangements.{exists}
