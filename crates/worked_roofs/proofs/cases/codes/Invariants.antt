@@ -1,5 +1,4 @@
 use Prim.Native.Nat.{◌≤◌, ◌-◌}
-use Rattle.worked_roofs.proofs.cases.codes.Tie as tie
 use Rattle.worked_roofs.proofs.cases.codes.Given as goal
 
 abbrev pub invariant-loop-i : goal.invariant-loop-i

@@ -1,6 +1,5 @@
 use Prim.Native.Nat.{◌≤◌, ◌-◌}
 use lib.ListN.{length}
-use Rattle.worked_roofs.proofs.cases.every_job.Tie as tie
 use Rattle.worked_roofs.proofs.cases.every_job.Given as goal
 
 abbrev pub invariant-loop-at : goal.invariant-loop-at

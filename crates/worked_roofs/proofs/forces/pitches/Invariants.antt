@@ -1,5 +1,4 @@
 use Prim.Native.Nat.{◌≤◌, ◌-◌}
-use Rattle.worked_roofs.proofs.forces.pitches.Tie as tie
 use Rattle.worked_roofs.proofs.forces.pitches.Given as goal
 
 abbrev pub invariant-loop-pitch : goal.invariant-loop-pitch

@@ -1,5 +1,4 @@
 use Prim.Native.Nat.{◌≤◌, ◌-◌}
-use Rattle.worked_roofs.proofs.jobs.put_set.Tie as tie
 use Rattle.worked_roofs.proofs.jobs.put_set.Given as goal
 
 abbrev pub invariant-loop-i : goal.invariant-loop-i

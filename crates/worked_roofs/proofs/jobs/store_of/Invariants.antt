@@ -1,6 +1,5 @@
 use Prim.Native.Nat.{◌≤◌, ◌-◌}
 use lib.ListN.{length}
-use Rattle.worked_roofs.proofs.jobs.store_of.Tie as tie
 use Rattle.worked_roofs.proofs.jobs.store_of.Given as goal
 
 abbrev pub invariant-loop-at : goal.invariant-loop-at

@@ -1,5 +1,4 @@
 use Prim.Native.Nat.{◌≤◌, ◌-◌}
-use Rattle.worked_roofs.proofs.readings.worst_of.Tie as tie
 use Rattle.worked_roofs.proofs.readings.worst_of.Given as goal
 
 abbrev pub invariant-loop-further : goal.invariant-loop-further

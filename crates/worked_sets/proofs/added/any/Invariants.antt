@@ -1,5 +1,4 @@
 use Prim.Native.Nat.{◌≤◌, ◌-◌}
-use Rattle.worked_sets.proofs.added.any.Tie as tie
 use Rattle.worked_sets.proofs.added.any.Given as goal
 
 abbrev pub invariant-loop-i : goal.invariant-loop-i

@@ -1,5 +1,4 @@
 use Prim.Native.Nat.{◌≤◌, ◌-◌}
-use Rattle.worked_sets.proofs.added.each_store.Tie as tie
 use Rattle.worked_sets.proofs.added.each_store.Given as goal
 
 abbrev pub invariant-loop-sets : goal.invariant-loop-sets

@@ -1,5 +1,4 @@
 use Prim.Native.Nat.{◌≤◌, ◌-◌}
-use Rattle.worked_sets.proofs.days.every_day.Tie as tie
 use Rattle.worked_sets.proofs.days.every_day.Given as goal
 
 abbrev pub invariant-loop-day : goal.invariant-loop-day

@@ -1,5 +1,4 @@
 use Prim.Native.Nat.{◌≤◌, ◌-◌}
-use Rattle.worked_sets.proofs.stores.numbers.Tie as tie
 use Rattle.worked_sets.proofs.stores.numbers.Given as goal
 
 abbrev pub invariant-loop-k : goal.invariant-loop-k

@@ -1,5 +1,4 @@
 use Prim.Native.Nat.{◌≤◌, ◌-◌}
-use Rattle.worked_sets.proofs.stores.places.Tie as tie
 use Rattle.worked_sets.proofs.stores.places.Given as goal
 
 abbrev pub invariant-loop-place : goal.invariant-loop-place
