@@ -18,7 +18,8 @@ pub fn make(store: &[u32], site: Site, roof: Roof, code: u8, out: &mut [u32]) ->
     ensures few { made_count result ≤ 32 }
 {
     let number = figure_rules::refusal(store, site, roof);
-    if number != 0 {
+    let refused = number != 0;
+    if refused {
         return Made::Refused(number);
     }
     let day = site.day;

@@ -40,7 +40,8 @@ pub fn list(store: &[u32], sheet: &[u8], numbers: &mut [u32; NUMBERS], out: &mut
     ensures within { result ≤ length out.new }
     ensures free { Free numbers.new }
 {
-    if out.len() < LIST_ROOM {
+    let short = out.len() < LIST_ROOM;
+    if short {
         return 0;
     }
     match verdict(store, sheet, Caller::Terminal) {

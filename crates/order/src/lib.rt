@@ -22,7 +22,8 @@ fn is_ready(upper: &[u8], marks: &[bool], i: usize) -> bool
         return false;
     }
     let j = upper_of(upper, i);
-    if j == 0 {
+    let none_above = j == 0;
+    if none_above {
         return true;
     }
     marked(marks, j)

@@ -21,7 +21,8 @@ pub fn read_full<R: Read>(input: &mut R, room: &mut [u8]) -> io::Result<usize>
     let mut done = 0;
     while done < room.len() {
         let n = input.read(&mut room[done..])?;
-        if n == 0 {
+        let ended = n == 0;
+        if ended {
             return Ok(done);
         }
         done += n;

@@ -54,7 +54,8 @@ fn adjacent_slope(shape: Shape, side: u8) -> RoofSlope
     let RoofSlope::Found { .. } = right else {
         return slope_of(shape, 1);
     };
-    if side == 1 {
+    let is_right = side == 1;
+    if is_right {
         return right;
     }
     slope_of(shape, 1)

@@ -18,8 +18,8 @@ told-accepted :
     (c : In-Accepted) → accepted c.in-Accepted.n ≡ sheet_verdict c.args.store.now terminals c.args.sheet.now
 told-accepted c = sym (ap verdict_means c.in-Accepted.is) ∙ c.verdict.ensures
 
-pub returns-then-out-lt-LIST_ROOM : goal.returns-then-out-lt-LIST_ROOM
-returns-then-out-lt-LIST_ROOM c =
+pub returns-then-short : goal.returns-then-short
+returns-then-short c =
     let e = too_small c.args.store.now c.args.sheet.now c.args.out.now (omega arith) in record { answer = e.0; written = e.1; within = omega arith; free = tt }
 
 pub overflow_cast-item : goal.overflow_cast-item

@@ -8,14 +8,14 @@ pub returns-then-marked : goal.returns-then-marked
 returns-then-marked c =
     ready_not (upper_in c.args.upper.now) (marked_in c.args.marks.now) c.args.i (sym c.marked.ensures ∙ c.if-marked.true)
 
-pub returns-then-j-eq0 : goal.returns-then-j-eq0
-returns-then-j-eq0 c =
+pub returns-then-none_above : goal.returns-then-none_above
+returns-then-none_above c =
     ready_free (upper_in c.args.upper.now) (marked_in c.args.marks.now) c.args.i (sym c.marked.ensures ∙ c.if-marked.false)
-    (sym c.upper_of-j.ensures ∙ c.if-j-eq0.true)
+    (sym c.upper_of-j.ensures ∙ c.if-none_above.true)
 
 pub returns : goal.returns
 returns c =
     let up = upper_in c.args.upper.now in
     let done = marked_in c.args.marks.now in
     c.marked-2.ensures ∙ ap done c.upper_of-j.ensures
-    ∙ ready_under up done c.args.i (sym c.marked.ensures ∙ c.if-marked.false) (λ e. c.if-j-eq0.false (c.upper_of-j.ensures ∙ e))
+    ∙ ready_under up done c.args.i (sym c.marked.ensures ∙ c.if-marked.false) (λ e. c.if-none_above.false (c.upper_of-j.ensures ∙ e))
