@@ -1,2 +1,2 @@
 pub mod Shifted
-pub mod Tested
+pub mod Table

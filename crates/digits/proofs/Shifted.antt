@@ -3,16 +3,17 @@ use Prim.Native.Nat.{ℕ, zero, suc, ◌+◌, ◌-◌, ◌*◌, ◌/◌, ◌%◌
 use mathlib.Core.Path.{◌≡◌, refl, ap, sym, ◌∙◌}
 use mathlib.Core.Bool.{Bool, true, false, cond}
 use mathlib.Core.List.{List, [], ◌∷◌, ◌++◌}
-use native.Mathlib.Nat.{pow-suc, pow-succ', div-one, zero-div, div-div-eq-div-mul}
+use native.Mathlib.Nat.{pow-succ', div-one, zero-div, div-div-eq-div-mul}
 use native.Mathlib.Omega.{arith}
-use borrow.Author.Tests.{ltb-true, ltb-false, lt-ltb}
-use lib.Dec.{ltb}
+use borrow.Author.Tests.{ltb-true, leb-true, leb-false, lt-leb}
+use lib.Dec.{ltb, leb}
+use Rattle.std.specs.Int.{from_bool}
 use lib.Pow.{pow-add}
 use lib.ListN.{length, drop, length-append, length-drop}
 use lib.Seq.{drop_at, drop-append-le}
 use Rattle.text.specs.Text.{decimal_in, decimal, digit, four_of}
-use Rattle.text.proofs.Writing.{fuel, four_behind}
-use Rattle.digits.specs.Words.{bytes_of, pack, padded, over, pair_word}
+use Rattle.text.proofs.Writing.{fuel, four_behind, one_digit, counted}
+use Rattle.digits.specs.Words.{bytes_of, pack, padded, pair_word}
 
 -- bytes, each below 256
 data Small : List ℕ → Type 0 where
@@ -120,55 +121,24 @@ shifted_eight n len g h e m =
     ap (λ (j : ℕ). bytes_of (len + 4) (pack (padded 8 n) / 2 ^ (8 * j))) k
     ∙ shifted 8 n (len + 4) (bare 7 n (in_eight n h)) (omega arith) (omega arith)
 
--- how many digits: one, and one more for each power of ten that is reached
-abbrev overs : ℕ → ℕ → ℕ
-overs zero n = 0
-overs (suc f) n = over (10 ^ suc f) n + overs f n
-
-over_by : (t u : Bool) (m n : ℕ) → ltb n (m * 10) ≡ t → ltb (n / 10) m ≡ u → t ≡ u
-over_by true true m n e g = refl
-over_by false false m n e g = refl
-over_by true false m n e g = let a = ltb-true n (m * 10) e in let b = ltb-false (n / 10) m g in absurd (omega arith)
-over_by false true m n e g = let a = ltb-false n (m * 10) e in let b = ltb-true (n / 10) m g in absurd (omega arith)
-
-over_ten : (f n : ℕ) → over (10 ^ suc f) n ≡ over (10 ^ f) (n / 10)
-unfolding over
-over_ten f n =
-    ap (λ (m : ℕ). cond (ltb n m) 0 1) (pow-suc 10 f)
-    ∙ ap (λ (t : Bool). cond t 0 1) (over_by (ltb n (10 ^ f * 10)) (ltb (n / 10) (10 ^ f)) (10 ^ f) n refl refl)
-
-overs_ten : (f n : ℕ) → overs (suc f) n ≡ over 10 n + overs f (n / 10)
-overs_ten zero n = refl
-overs_ten (suc f) n = let a = over_ten (suc f) n in let b = overs_ten f n in omega arith
-
-ten_pos : (k : ℕ) → 0 < 10 ^ k
-ten_pos zero = omega arith
-ten_pos (suc k) = let p : 10 ^ suc k ≡ 10 ^ k * 10 = pow-suc 10 k in let h = ten_pos k in omega arith
-
-overs_zero : (f : ℕ) → overs f 0 ≡ 0
-unfolding over
-overs_zero zero = refl
-overs_zero (suc f) = simp (lt-ltb 0 (10 ^ suc f) (ten_pos (suc f))) (omega (arith, overs_zero f))
-
-counted_by : (t : Bool) (f n : ℕ) → ltb n 10 ≡ t → length (decimal_in f (n / 10)) ≡ 1 + overs f (n / 10)
-    → length (cond t ((48 + n) ∷ []) (decimal_in f (n / 10) ++ (digit n ∷ []))) ≡ 1 + (cond t 0 1 + overs f (n / 10))
-counted_by true f n e h =
-    let l : n < 10 = ltb-true n 10 e in
-    let z : n / 10 ≡ 0 = omega arith in
-    let y : overs f (n / 10) ≡ 0 = ap (overs f) z ∙ overs_zero f in
-    omega arith
-counted_by false f n e h = simp length-append (omega arith)
-
-ten : (f n : ℕ) → cond (ltb n 10) 0 1 + overs f (n / 10) ≡ overs (suc f) n
-unfolding over
-ten f n = sym (overs_ten f n)
-
-counted_in : (f n : ℕ) → length (decimal_in f n) ≡ 1 + overs f n
-counted_in zero n = refl
-counted_in (suc f) n = counted_by (ltb n 10) f n refl (counted_in f (n / 10)) ∙ ap (λ (m : ℕ). 1 + m) (ten f n)
-
-pub counted : (n : ℕ) → n < 10000 → length (decimal n) ≡ 1 + overs 3 n
-counted n h = ap length (in_four n h) ∙ counted_in 3 n
+-- how many digits a number of at most four has
+pub four_count : (n : ℕ) (a b c : Bool) → leb 10 n ≡ a → leb 100 n ≡ b → leb 1000 n ≡ c → n < 10000
+    → 1 + from_bool a + from_bool b + from_bool c ≡ length (decimal n)
+four_count n true true true e f g h = let r = leb-true 1000 n g in sym (counted 3 n r (omega arith) (omega arith))
+four_count n true true false e f g h = let r = leb-true 100 n f in let s = leb-false 1000 n g in sym (counted 2 n r (omega arith) (omega arith))
+four_count n true false c e f g h =
+    let r = leb-true 10 n e in
+    let s = leb-false 100 n f in
+    let t : leb 1000 n ≡ false = lt-leb 1000 n (omega arith) in
+    let u : c ≡ false = sym g ∙ t in
+    rw u (sym (counted 1 n r (omega arith) (omega arith)))
+four_count n false b c e f g h =
+    let s = leb-false 10 n e in
+    let t : leb 100 n ≡ false = lt-leb 100 n (omega arith) in
+    let u : leb 1000 n ≡ false = lt-leb 1000 n (omega arith) in
+    let v : b ≡ false = sym f ∙ t in
+    let w : c ≡ false = sym g ∙ u in
+    rw (v, w) (sym (ap length (one_digit n s)))
 
 -- four and eight digits from two and four
 pub four_word : (n : ℕ) → pair_word (n / 100) + 65536 * pair_word (n % 100) ≡ pack (padded 4 n)
