@@ -1,14 +1,19 @@
 -- Writes whose last bytes are still to be written over.
-use Prim.Native.Nat.{ℕ, zero, suc, ◌+◌, ◌≤◌, ◌<◌, ◌/◌, ◌%◌}
+use Prim.Native.Nat.{ℕ, zero, suc, ◌+◌, ◌≤◌, ◌<◌, ◌/◌, ◌%◌, ◌^◌}
 use mathlib.Core.Path.{◌≡◌, refl, ap, sym, subst, ◌∙◌}
 use mathlib.Core.List.{List, [], ◌∷◌, ◌++◌, append_assoc}
+use native.Mathlib.Nat.{pow-suc, div-one, div-div-eq-div-mul}
+use native.Mathlib.Numerals.{add-one}
 use native.Mathlib.Omega.{arith}
-use lib.ListN.{length, set, take, drop, length-append, length-drop, take-append-drop}
+use lib.ListN.{length, set, take, drop, length-append, length-drop, length-set, take-append-drop}
 use lib.Seq.{sets, length-sets, set-set, set_comm}
-use Rattle.text.specs.Text.{Wrote, field, row}
+use Rattle.std.specs.Int.{byte_at, bytes_low_first}
+use Rattle.text.specs.Text.{decimal, field, row}
+use Rattle.text.specs.Written.{Wrote}
+use Rattle.text.specs.declared.writer.Writer.{Writer}
 use Rattle.text.proofs.Writing.{sets_append, room}
 use Rattle.digits.specs.Words.{bytes_of}
-use Rattle.digit_rows.specs.Rows.{Loose}
+use Rattle.digit_rows.specs.Loosely.{Loose}
 
 -- a store in front of a text goes before it
 set_sets : (b : List ℕ) (r j x : ℕ) (text : List ℕ) → r < j → set (sets b j text) r x ≡ sets (set b r x) j text
@@ -27,52 +32,40 @@ written_over b r (x ∷ old) (y ∷ new) h =
     (set_sets (set b r x) r (suc r) y old (omega arith) ∙ ap (λ (l : List ℕ). sets l (suc r) old) e)
     ∙ written_over (set b r y) (suc r) old new (omega arith)
 
--- a text and some bytes behind it
-pub loose :
-    (k : ℕ) (b : List ℕ) (at : ℕ) (text junk after : List ℕ) → after ≡ sets b at (text ++ junk) → length junk ≤ k
-    → Loose k b at text after (at + length text)
-loose k b at text junk after e h =
-    record {
-      bytes = λ next g.
-          ap (λ (l : List ℕ). sets l (at + length text) next) (e ∙ sym (sets_append b at text junk))
-          ∙ (written_over (sets b at text) (at + length text) junk next (omega arith) ∙ sets_append b at text next);
-      end = refl;
-      size = ap length e ∙ length-sets b at (text ++ junk);
-    }
-
 -- nothing is spoiled
-pub exact : (k : ℕ) {b : List ℕ} {at : ℕ} {text after : List ℕ} {r : ℕ} → Wrote b at text after r → Loose k b at text after r
-exact k {b} {at} {text} {after} {r} w =
+pub exact : (k : ℕ) {a b : Writer} {text : List ℕ} → Wrote a text b → Loose k a text b
+exact k {a} {b} {text} w =
     record {
       bytes = λ next g.
-          ap (λ (l : List ℕ). sets l r next) w.bytes
-          ∙ (ap (λ (m : ℕ). sets (sets b at text) m next) w.end ∙ sets_append b at text next);
+          ap (λ (l : List ℕ). sets l b.at next) w.bytes
+          ∙ (ap (λ (m : ℕ). sets (sets a.bytes.now a.at text) m next) w.end ∙ sets_append a.bytes.now a.at text next);
       end = w.end;
       size = room w;
+      same = w.same;
     }
 
 pub loosely :
-    (k : ℕ) {j : ℕ} {a b c : List ℕ} {at r t : ℕ} {m n : List ℕ} → Loose k a at m b r → Loose j b r n c t → k ≤ length n + j
-    → Loose j a at (m ++ n) c t
-loosely k {j} {a} {b} {c} {at} {r} {t} {m} {n} g h i =
+    (k : ℕ) {j : ℕ} {a b c : Writer} {m n : List ℕ} → Loose k a m b → Loose j b n c → k ≤ length n + j
+    → Loose j a (m ++ n) c
+loosely k {j} {a} {b} {c} {m} {n} g h i =
     record {
       bytes = λ next f.
-          h.bytes next f ∙ (g.bytes (n ++ next) (simp length-append (omega arith)) ∙ ap (sets a at) (sym (append_assoc m n next)));
+          h.bytes next f ∙ (g.bytes (n ++ next) (simp length-append (omega arith)) ∙ ap (sets a.bytes.now a.at) (sym (append_assoc m n next)));
       end = simp length-append (omega (arith, g.end, h.end));
       size = h.size ∙ g.size;
+      same = h.same ∙ g.same;
     }
 
-pub finish :
-    (k : ℕ) {a b c : List ℕ} {at r t : ℕ} {m n : List ℕ} → Loose k a at m b r → Wrote b r n c t → k ≤ length n
-    → Wrote a at (m ++ n) c t
-finish k {a} {b} {c} {at} {r} {t} {m} {n} g w i =
+pub finish : (k : ℕ) {a b c : Writer} {m n : List ℕ} → Loose k a m b → Wrote b n c → k ≤ length n → Wrote a (m ++ n) c
+finish k {a} {b} {c} {m} {n} g w i =
     record {
       bytes = w.bytes ∙ g.bytes n i;
       end = simp length-append (omega (arith, g.end, w.end));
+      same = w.same ∙ g.same;
     }
 
-pub loose_as : {k : ℕ} {a b m n : List ℕ} {at r : ℕ} → Loose k a at m b r → m ≡ n → Loose k a at n b r
-loose_as {k} {a} {b} {m} {n} {at} {r} w e = subst (λ (l : List ℕ). Loose k a at l b r) e w
+pub loose_as : {k : ℕ} {a b : Writer} {m n : List ℕ} → Loose k a m b → m ≡ n → Loose k a n b
+loose_as {k} {a} {b} {m} {n} w e = subst (λ (l : List ℕ). Loose k a l b) e w
 
 -- the lowest bytes of a word
 take_bytes : (m k w : ℕ) → m ≤ k → take m (bytes_of k w) ≡ bytes_of m w
@@ -80,36 +73,54 @@ take_bytes zero k w h = refl
 take_bytes (suc m) zero w h = absurd (omega arith)
 take_bytes (suc m) (suc k) w h = ap (λ (l : List ℕ). w % 256 ∷ l) (take_bytes m k (w / 256) (omega arith))
 
-length_bytes : (k w : ℕ) → length (bytes_of k w) ≡ k
+pub length_bytes : (k w : ℕ) → length (bytes_of k w) ≡ k
 length_bytes zero w = refl
 length_bytes (suc k) w = ap suc (length_bytes k (w / 256))
 
--- eight bytes were written, of which len count
+-- they are those that std gives
+byte : (i w : ℕ) → byte_at i w ≡ w / 256 ^ i % 256
+byte zero w = ap (λ (k : ℕ). k % 256) (sym (div-one w))
+byte (suc i) w = refl
+
+low_bytes : (i k w : ℕ) → bytes_low_first i k w ≡ bytes_of k (w / 256 ^ i)
+low_bytes i zero w = refl
+low_bytes i (suc k) w =
+    let e : w / 256 ^ suc i ≡ w / 256 ^ i / 256 = ap (λ (m : ℕ). w / m) (pow-suc 256 i) ∙ sym (div-div-eq-div-mul w (256 ^ i) 256) in
+    ap (λ (x : ℕ). x ∷ bytes_low_first (suc i) k w) (byte i w)
+    ∙ ap (λ (l : List ℕ). w / 256 ^ i % 256 ∷ l) (low_bytes (suc i) k w ∙ ap (bytes_of k) e)
+
+pub word_bytes : (w : ℕ) → bytes_low_first 0 8 w ≡ bytes_of 8 w
+word_bytes w = low_bytes 0 8 w ∙ ap (bytes_of 8) (div-one w)
+
+-- eight bytes were written, and a byte behind those of them that count
 pub word :
-    (b : List ℕ) (at w len : ℕ) (after : List ℕ) → after ≡ sets b at (bytes_of 8 w) → 1 ≤ len → len ≤ 8
-    → Loose 7 b at (bytes_of len w) after (at + len)
-word b at w len after e some most =
+    {a b : Writer} {text : List ℕ} (w len behind : ℕ) → b.bytes.now ≡ set (sets a.bytes.now a.at (bytes_of 8 w)) (a.at + len) behind
+    → b.at ≡ a.at + len + 1 → b.bytes.ghost_name ≡ a.bytes.ghost_name → bytes_of len w ≡ text → 1 ≤ len → len ≤ 8
+    → Loose 6 a (text ++ (behind ∷ [])) b
+word {a} {b} {text} w len behind e p s t some most =
+    let old = a.bytes.now in
+    let at = a.at in
     let rest = drop len (bytes_of 8 w) in
-    let f : bytes_of 8 w ≡ bytes_of len w ++ rest =
-    sym (take-append-drop len (bytes_of 8 w)) ∙ ap (λ (l : List ℕ). l ++ rest) (take_bytes len 8 w most) in
-    subst (λ (n : ℕ). Loose 7 b at (bytes_of len w) after (at + n)) (length_bytes len w)
-    (loose 7 b at (bytes_of len w) rest after (e ∙ ap (sets b at) f) (omega (arith, length-drop len (bytes_of 8 w))))
+    let n : length text ≡ len = sym (ap length t) ∙ length_bytes len w in
+    let size : length rest ≤ 7 = omega (arith, length-drop len (bytes_of 8 w), length_bytes 8 w) in
+    let f : bytes_of 8 w ≡ text ++ rest =
+    sym (take-append-drop len (bytes_of 8 w)) ∙ ap (λ (l : List ℕ). l ++ rest) (take_bytes len 8 w most ∙ t) in
+    let g : sets old at (bytes_of 8 w) ≡ sets (sets old at text) (at + len) rest =
+    ap (sets old at) f ∙ (sym (sets_append old at text rest) ∙ ap (λ (k : ℕ). sets (sets old at text) (at + k) rest) n) in
+    record {
+      bytes = λ next h.
+          ap (λ (l : List ℕ). sets l b.at next) (e ∙ ap (λ (l : List ℕ). set l (at + len) behind) g)
+          ∙ (ap (λ (k : ℕ). sets (set (sets (sets old at text) (at + len) rest) (at + len) behind) k next) (p ∙ add-one (at + len))
+          ∙ (written_over (sets old at text) (at + len) rest (behind ∷ next) (omega arith)
+          ∙ (ap (λ (k : ℕ). sets (sets old at text) (at + k) (behind ∷ next)) (sym n)
+          ∙ (sets_append old at text (behind ∷ next) ∙ ap (sets old at) (sym (append_assoc text (behind ∷ []) next))))));
+      end = simp length-append (omega (arith, p, n));
+      size = ap length e ∙ (length-set (sets old at (bytes_of 8 w)) (at + len) behind ∙ length-sets old at (bytes_of 8 w));
+      same = s;
+    }
 
-regroup : (a b c d : List ℕ) → (a ++ (b ++ c)) ++ d ≡ a ++ (b ++ (c ++ d))
-regroup a b c d = append_assoc a (b ++ c) d ∙ ap (λ (l : List ℕ). a ++ l) (append_assoc b c d)
-
--- a row in two halves
-pub halves :
-    {a b c : List ℕ} {at r q : ℕ} (i k : ℕ) {s t e f l g m h : ℕ} → s ≡ t → e ≡ f → l ≡ g → m ≡ h
-    → Loose 6 a at (field i 32 ++ (field k 32 ++ field s 32)) b r
-    → Loose 6 b r (field e 32 ++ (field l 32 ++ field m 10)) c q
-    → Loose 6 a at (row (i ∷ k ∷ t ∷ f ∷ g ∷ h ∷ [])) c q
-halves i k {s} {t} {e} {f} {l} {g} {m} {h} p q u v x y =
-    let right = field e 32 ++ (field l 32 ++ field m 10) in
-    loose_as
-    (loosely 6 {m = field i 32 ++ (field k 32 ++ field s 32)} {n = right} x y (omega arith))
-    (regroup (field i 32) (field k 32) (field s 32) right ∙ (cc))
-
--- a row writes over all that is spoiled
-pub row_covers : (a b c d e f : ℕ) → 6 ≤ length (row (a ∷ b ∷ c ∷ d ∷ e ∷ f ∷ []))
-row_covers a b c d e f = simp length-append (omega arith)
+-- a row has a byte for each number at least, so that one of six numbers writes over all that is spoiled
+pub row_covers : (ns : List ℕ) → length ns ≤ length (row ns)
+row_covers [] = omega arith
+row_covers (n ∷ []) = simp length-append (omega arith)
+row_covers (n ∷ m ∷ ns) = let h = row_covers (m ∷ ns) in omega (arith, length-append (field n 32) (row (m ∷ ns)), length-append (decimal n) (32 ∷ []))

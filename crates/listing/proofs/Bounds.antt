@@ -15,7 +15,8 @@ use Rattle.sheet_figures.specs.Find.{sheet_national}
 use Rattle.sheet_rows.specs.SheetRows.{roofs_rows}
 use Rattle.sheet_rows.proofs.Accepted.{all_short}
 use Rattle.text.proofs.Writing.{short, in_place, room, wrote_as}
-use Rattle.text.specs.Text.{Wrote}
+use Rattle.text.specs.Written.{Wrote}
+use Rattle.text.specs.declared.writer.Writer.{Writer}
 use Rattle.upper_items.specs.Uppers.{roof_order}
 
 -- the room is enough for the listing of any sheet
@@ -35,21 +36,22 @@ module _ (store sheet old : List ℕ) where
   unfolding listed bytes_after
   too_small h = (rw (lt-ltb (length old) list_room h), rw (lt-ltb (length old) list_room h))
 
-  listing_is : (v : Answer ℕ) → v ≡ sheet_verdict store terminals sheet → listing_by store v sheet ≡ listing store sheet
+  pub listing_is : (v : Answer ℕ) → v ≡ sheet_verdict store terminals sheet → listing_by store v sheet ≡ listing store sheet
   unfolding listing
   listing_is v e = ap (λ (a : Answer ℕ). listing_by store a sheet) e
 
   pub all_written :
-      (v : Answer ℕ) (new : List ℕ) (r : ℕ) → v ≡ sheet_verdict store terminals sheet → list_room ≤ length old → Wrote old 0 (listing_by store v sheet) new r
-      → (r ≡ listed store sheet (length old)) × ((new ≡ bytes_after store sheet old) × (r ≤ length new))
+      {a b : Writer} → a.bytes.now ≡ old → a.at ≡ 0 → list_room ≤ length old → Wrote a (listing store sheet) b
+      → (b.at ≡ listed store sheet (length old)) × ((b.bytes.now ≡ bytes_after store sheet old) × (b.at ≤ length b.bytes.now))
   unfolding listed bytes_after
-  all_written v new r e h w =
-      let x : Wrote old 0 (listing store sheet) new r = wrote_as w (listing_is v e) in
+  all_written {a} {b} f z h x =
       let t = le-ltb (length old) list_room h in
-      let k : r ≡ length (listing store sheet) = x.end ∙ zero-add (length (listing store sheet)) in (
+      let k : b.at ≡ length (listing store sheet) = omega (arith, x.end, z) in
+      let s : length a.bytes.now ≡ length old = ap length f in
+      let p = in_place x (omega (arith, listing_short store sheet)) in (
         rw t k,
         (
-          rw t (in_place x (omega (arith, listing_short store sheet)) ∙ ap (λ (n : ℕ). listing store sheet ++ drop n old) k),
+          rw t (rw (f, z, k) at p),
           omega (arith, k, listing_short store sheet, room x),
         ),
       )

@@ -11,3 +11,8 @@ slice_row numbers item code k =
 unfoldable pub slice_rows : List ℕ → ℕ → ℕ → ℕ → List ℕ
 slice_rows numbers item code zero = []
 slice_rows numbers item code (suc k) = slice_rows numbers item code k ++ slice_row numbers item code k
+
+-- the rows of segments
+abbrev pub rows_of : ℕ → ℕ → List (List ℕ) → List ℕ
+rows_of item code [] = []
+rows_of item code (segment ∷ segments) = row (item ∷ code ∷ segment) ++ rows_of item code segments

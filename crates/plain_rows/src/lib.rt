@@ -3,51 +3,31 @@
 
 mod words;
 
-ghost use Rattle.std.specs.Prelude.{◌+◌, ◌*◌, ◌≤◌, length};
-ghost use Rattle.text.specs.Text.{Wrote};
-ghost use Rattle.plain_rows.specs.Rows.{slice_row, slice_rows};
+ghost use Rattle.std.specs.Prelude.{◌+◌, ◌*◌, ◌≤◌, ◌∷◌, length};
+ghost use Rattle.text.specs.Text.{row};
+ghost use Rattle.text.specs.Written.{Wrote};
+ghost use Rattle.plain_rows.specs.Rows.{rows_of};
 
+use text::Writer;
 pub use words::{put_header, put_refused};
 
-// Writes the row of the segment at an index of the numbers, four numbers a segment.
-pub fn put_row(numbers: &[u32], i: usize, item: u32, code: u32, out: &mut [u8], at: usize) -> usize
-    requires i_in_bounds { 4 * i + 4 ≤ length numbers.now }
-    requires at_in_bounds { at + 66 ≤ length out.old }
-    ensures wrote { Wrote out.old at (slice_row numbers.now item code i) out.new result }
-    ensures upper_bound { result ≤ at + 66 }
+// Writes the row of a segment: start, end, and the loads there.
+pub fn put_segment(out: &mut Writer, item: u32, code: u32, segment: &[u32; 4])
+    requires { out.old.at + 66 ≤ length out.old.bytes.now }
+    ensures wrote { Wrote out.old (row (item ∷ code ∷ segment.now)) out.new }
+    ensures upper_bound { out.new.at ≤ out.old.at + 66 }
 {
-    let j = 4 * i;
-    text::put_row6(
-        out,
-        at,
-        item,
-        code,
-        numbers[j],
-        numbers[j + 1],
-        numbers[j + 2],
-        numbers[j + 3],
-    )
+    let [start, end, first, second] = *segment;
+    out.put_row(&[item, code, start, end, first, second]);
 }
 
-// Writes a row for each of the first n segments.
-pub fn list_plainly(
-    numbers: &[u32],
-    n: usize,
-    item: u32,
-    code: u32,
-    out: &mut [u8],
-    at: usize,
-) -> usize
-    requires n_in_bounds { 4 * n ≤ length numbers.now }
-    requires n_in_bounds_2 { at + 66 * n ≤ length out.old }
-    ensures wrote { Wrote out.old at (slice_rows numbers.now item code n) out.new result }
-    ensures upper_bound { result ≤ at + 66 * n }
+// Writes a row for each segment.
+pub fn list_plainly(out: &mut Writer, item: u32, code: u32, segments: &[[u32; 4]])
+    requires { out.old.at + 66 * length segments.now ≤ length out.old.bytes.now }
+    ensures wrote { Wrote out.old (rows_of item code segments.now) out.new }
+    ensures upper_bound { out.new.at ≤ out.old.at + 66 * length segments.now }
 {
-    let mut a = at;
-    let mut i = 0;
-    while i < n {
-        a = put_row(numbers, i, item, code, out, a);
-        i += 1;
+    for segment in segments {
+        put_segment(out, item, code, segment);
     }
-    a
 }

@@ -1,21 +1,23 @@
 // The two lines of words.
-ghost use Rattle.std.specs.Prelude.{◌≤◌, length};
+ghost use Rattle.std.specs.Prelude.{◌+◌, ◌≤◌, length};
 ghost use Rattle.plain_rows.specs.Words.{header, refused_row};
-ghost use Rattle.text.specs.Text.{Wrote};
+ghost use Rattle.text.specs.Written.{Wrote};
+
+use text::Writer;
 
 // Writes the header.
-pub fn put_header(out: &mut [u8]) -> usize
-    requires { 29 ≤ length out.old }
-    ensures { Wrote out.old 0 header out.new result }
+pub fn put_header(out: &mut Writer)
+    requires { out.old.at + 29 ≤ length out.old.bytes.now }
+    ensures { Wrote out.old header out.new }
 {
-    text::put_bytes(out, 0, b"ITEM ARR START END LOAD LOAD\n")
+    out.put_bytes(b"ITEM ARR START END LOAD LOAD\n");
 }
 
 // Writes the line of a refused sheet.
-pub fn put_refused(out: &mut [u8], number: u32, item: u32) -> usize
-    requires { 30 ≤ length out.old }
-    ensures { Wrote out.old 0 (refused_row number item) out.new result }
+pub fn put_refused(out: &mut Writer, number: u32, item: u32)
+    requires { out.old.at + 30 ≤ length out.old.bytes.now }
+    ensures { Wrote out.old (refused_row number item) out.new }
 {
-    let a = text::put_bytes(out, 0, b"REFUSED ");
-    text::put_row2(out, a, number, item)
+    out.put_bytes(b"REFUSED ");
+    out.put_row(&[number, item]);
 }

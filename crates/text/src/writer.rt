@@ -5,6 +5,7 @@ ghost use Rattle.text.specs.Written.{Wrote};
 
 use itoa::write_digits;
 
+#[derive(Drop)]
 pub struct Writer<'a> {
     pub bytes: &'a mut [u8],
     pub at: usize,
@@ -18,6 +19,14 @@ fn digit_count(number: u32) -> usize
 }
 
 impl<'a> Writer<'a> {
+    // Begins at the front of the lent bytes.
+    pub fn new(bytes: &'a mut [u8]) -> Writer<'a>
+        ensures front { (result.bytes.now ≡ bytes.old) × (result.at ≡ 0) }
+        ensures same_bytes { result.bytes.ghost_name ≡ bytes.entry.ghost_name }
+    {
+        Writer { bytes, at: 0 }
+    }
+
     // Writes bytes as they are.
     pub fn put_bytes(&mut self, text: &[u8])
         requires { self.old.at + length text.now ≤ length self.old.bytes.now }

@@ -5,4 +5,4 @@ use Rattle.listing.proofs.list_accepted.Goals as goal
 pub returns : goal.returns
 unfolding listing_by
 returns c =
-    then c.put_header-a.ensures c.list_roofs.ensures
+    then c.put_header.ensures c.list_roofs.ensures

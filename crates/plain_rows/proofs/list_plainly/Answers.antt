@@ -1,24 +1,14 @@
-use mathlib.Core.Path.{◌≡◌, ap, sym}
-use native.Mathlib.Numerals.{add-one}
-use Rattle.plain_rows.specs.Rows.{slice_row, slice_rows}
-use Rattle.text.proofs.Writing.{then, none, wrote_as}
-use borrow.Author.Rules.{rules}
 use native.Mathlib.Omega.{arith}
+use Rattle.text.proofs.Writing.{then, room, wrote_as}
+use Rattle.plain_rows.proofs.Segments.{rows_more}
 use Rattle.plain_rows.proofs.list_plainly.Goals as goal
 
-pub loop-i-init : goal.loop-i-init
-unfolding slice_rows
-loop-i-init c =
-    (omega arith, omega arith, search rules, none c.args.out.now c.args.at)
+pub put_segment-requires : goal.put_segment-requires
+put_segment-requires c = omega (arith, room c.loop-segment.invariant.wrote)
 
-pub loop-i-preserved : goal.loop-i-preserved
-unfolding slice_rows
-loop-i-preserved c =
-    let rows = slice_rows c.args.numbers.now c.args.item c.args.code in
-    let next = slice_row c.args.numbers.now c.args.item c.args.code c.loop-i.i in
-    let more = then {n = next} c.loop-i.invariant.3 c.put_row-a.ensures.wrote in
-    (omega arith, omega arith, search rules, wrote_as more (ap rows (sym (add-one c.loop-i.i))))
-
-pub returns : goal.returns
-returns c =
-    let e : c.loop-i.i ≡ c.args.n = omega arith in record { wrote = wrote_as c.loop-i.invariant.3 (ap (slice_rows c.args.numbers.now c.args.item c.args.code) e); upper_bound = omega arith }
+pub loop-segment-preserved : goal.loop-segment-preserved
+loop-segment-preserved c = record {
+  wrote = wrote_as (then c.loop-segment.invariant.wrote c.put_segment.ensures.wrote)
+      (rows_more c.args.item c.args.code c.args.segments.now c.loop-segment.segment-index c.loop-segment-test.true);
+  place = omega arith;
+}

@@ -1,16 +1,11 @@
-use Prim.Native.Nat.{◌+◌, ◌-◌, ◌*◌, ◌≤◌}
-use mathlib.Core.Path.{◌≡◌}
-use lib.ListN.{length}
-use Rattle.plain_rows.specs.Rows.{slice_rows}
-use Rattle.text.specs.Text.{Wrote}
+use Prim.Native.Nat.{◌+◌, ◌*◌, ◌≤◌}
+use lib.ListN.{take}
+use Rattle.plain_rows.specs.Rows.{rows_of}
+use Rattle.text.specs.Written.{Wrote}
 use Rattle.plain_rows.proofs.list_plainly.Given as goal
 
-abbrev pub invariant-loop-i : goal.invariant-loop-i
-invariant-loop-i l =
-    (l.i ≤ l.n)
-    × (l.a ≤ l.at + 66 * l.i)
-    × (length l.out ≡ length l.initial.out)
-    × Wrote l.initial.out l.at (slice_rows l.numbers l.item l.code l.i) l.out l.a
-
-abbrev pub decreases-loop-i : goal.decreases-loop-i
-decreases-loop-i l = l.n - l.i
+abbrev pub invariant-loop-segment : goal.invariant-loop-segment
+invariant-loop-segment l = record {
+  wrote : Wrote l.initial.out (rows_of l.item l.code (take l.segment-index l.segments)) l.out;
+  place : l.out.at ≤ l.initial.out.at + 66 * l.segment-index;
+}

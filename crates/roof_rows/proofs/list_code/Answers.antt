@@ -14,7 +14,7 @@ told c = rw (c.requires.kind_value.0, c.requires.kind_value.1) at c.has_code.ens
 
 pub returns-then-not-has_code : goal.returns-then-not-has_code
 returns-then-not-has_code c =
-    let k = sym (told (goal.at.returns-then-not-has_code c).After-has_code) ∙ c.if-not-has_code.true in record { wrote = wrote_as (none _ _) (no_rows c.args.national c.args.site _ c.args.item c.args.code k); upper_bound = omega arith }
+    let k = sym (told (goal.at.returns-then-not-has_code c).After-has_code) ∙ c.if-not-has_code.true in record { wrote = wrote_as (none _) (no_rows c.args.national c.args.site _ c.args.item c.args.code k); upper_bound = omega arith }
 
 pub list_arrangement-requires : goal.list_arrangement-requires
 list_arrangement-requires c =

@@ -1,10 +1,17 @@
-use Prim.Native.Nat.{◌+◌, ◌-◌}
-use mathlib.Core.Path.{◌≡◌, ap}
-use Rattle.text.proofs.Writing.{wrote_as}
-use Rattle.segment_rows.specs.Rows.{slice_rows}
+use mathlib.Core.Path.{ap, sym, ◌∙◌}
 use native.Mathlib.Omega.{arith}
+use Rattle.text.proofs.Writing.{wrote_as}
+use Rattle.plain_rows.specs.Rows.{rows_of}
+use Rattle.plain_rows.proofs.Segments.{segments_are}
 use Rattle.segment_rows.proofs.list_segments.Goals as goal
 
-pub returns-then-code-lt-LONG : goal.returns-then-code-lt-LONG
-returns-then-code-lt-LONG c =
-    let e : c.args.n - 1 + 1 ≡ c.args.n = omega arith in record { wrote = wrote_as c.list_short.ensures.wrote (ap (slice_rows c.args.numbers.now c.args.item c.args.code) e); upper_bound = omega arith }
+pub returns-in-Some-clause-wrote : goal.returns-in-Some-clause-wrote
+returns-in-Some-clause-wrote c =
+    wrote_as c.list_short.ensures.wrote
+    (ap (rows_of c.args.item c.args.code) (sym c.in-Some.ensures.cases.0 ∙ c.as_chunks.ensures.front)
+    ∙ segments_are c.args.numbers.now c.args.item c.args.code _ (omega arith))
+
+pub returns-in_default-clause-wrote : goal.returns-in_default-clause-wrote
+returns-in_default-clause-wrote c =
+    wrote_as c.list_plainly.ensures.wrote
+    (ap (rows_of c.args.item c.args.code) c.as_chunks.ensures.front ∙ segments_are c.args.numbers.now c.args.item c.args.code _ (omega arith))

@@ -3,11 +3,10 @@ use lib.ListN.{get_or}
 use mathlib.Core.Path.{◌≡◌, ap}
 use Rattle.sheet_figures.specs.Find.{sheet_national}
 use Rattle.sheet_figures.proofs.Sound.{its_figures}
-use Rattle.text.proofs.Writing.{then, none, wrote_as}
+use Rattle.text.proofs.Writing.{then, none, room, wrote_as}
 use Rattle.upper_items.specs.Uppers.{roof_order}
 use Rattle.sheet_rows.specs.SheetRows.{roofs_rows}
 use Rattle.sheet_rows.proofs.Accepted.{with_store, few_items, parts, first_item, some_roof, roof_below, roof_of_lem, figures_at, roof_in_table, next_roof_lem}
-use borrow.Author.Rules.{rules}
 use native.Mathlib.Omega.{arith}
 use Rattle.sheet_rows.proofs.list_roofs.Goals as goal
 use Rattle.sheet_rows.proofs.list_roofs.Goals.{After-figures_for-national, In-loop-k}
@@ -40,7 +39,7 @@ roof_order-roofs-requires c =
 
 pub loop-k-init : goal.loop-k-init
 unfolding roofs_rows
-loop-k-init c = (none _ _, omega arith, omega arith, search rules)
+loop-k-init c = (none _, omega arith, omega arith)
 
 pub bounds-roofs-k : goal.bounds-roofs-k
 bounds-roofs-k c = omega (arith, few_items _ _ _ c.requires.0)
@@ -55,20 +54,19 @@ roof_in-roof-requires c =
 pub overflow_cast-i-in-loop-k : goal.overflow_cast-i-in-loop-k
 overflow_cast-i-in-loop-k c = omega (arith, here (goal.at.overflow_cast-i-in-loop-k c).In-loop-k, below (goal.at.overflow_cast-i-in-loop-k c).In-loop-k, few (goal.at.overflow_cast-i-in-loop-k c).In-loop-k)
 
-pub list_roof-a-requires : goal.list_roof-a-requires
-list_roof-a-requires c = (
-  rw (used (goal.at.list_roof-a-requires c).After-figures_for-national, c.site_in-site.ensures.0, c.roof_in-roof.ensures.0, here (goal.at.list_roof-a-requires c).In-loop-k)
-      (figures_at _ _ _ c.requires.0 _ (place (goal.at.list_roof-a-requires c).In-loop-k)),
-  omega (arith, c.loop-k.invariant.2, c.loop-k.invariant.3, place (goal.at.list_roof-a-requires c).In-loop-k, few (goal.at.list_roof-a-requires c).In-loop-k, c.requires.1),
+pub list_roof-requires : goal.list_roof-requires
+list_roof-requires c = (
+  rw (used (goal.at.list_roof-requires c).After-figures_for-national, c.site_in-site.ensures.0, c.roof_in-roof.ensures.0, here (goal.at.list_roof-requires c).In-loop-k)
+      (figures_at _ _ _ c.requires.0 _ (place (goal.at.list_roof-requires c).In-loop-k)),
+  omega (arith, c.loop-k.invariant.2, room c.loop-k.invariant.0, place (goal.at.list_roof-requires c).In-loop-k, few (goal.at.list_roof-requires c).In-loop-k, c.requires.1),
 )
 
 pub loop-k-preserved : goal.loop-k-preserved
 loop-k-preserved c =
-    let w = rw (used (goal.at.loop-k-preserved c).After-figures_for-national, c.site_in-site.ensures.0, c.roof_in-roof.ensures.0, here (goal.at.loop-k-preserved c).In-loop-k) at c.list_roof-a.ensures.wrote in (
+    let w = rw (used (goal.at.loop-k-preserved c).After-figures_for-national, c.site_in-site.ensures.0, c.roof_in-roof.ensures.0, here (goal.at.loop-k-preserved c).In-loop-k) at c.list_roof.ensures.wrote in (
       wrote_as (then c.loop-k.invariant.0 w) (next_roof_lem _ _ _ c.loop-k.k),
       omega (arith, place (goal.at.loop-k-preserved c).In-loop-k),
-      omega (arith, c.loop-k.invariant.2, c.list_roof-a.ensures.upper_bound),
-      search rules,
+      omega (arith, c.loop-k.invariant.2, c.list_roof.ensures.upper_bound),
     )
 
 pub returns : goal.returns
