@@ -1,13 +1,18 @@
 // The library's listing of one sheet, held against the text that is stored with it.
-ghost use Rattle.std.specs.Prelude.{◌≡◌, true, ◌≤◌, length, replicate};
+ghost use Rattle.std.specs.Prelude.{◌≡◌, ◌↔◌, ◌≤◌, IsTrue, length, replicate};
 ghost use Rattle.listing.specs.Listing.{listing, list_room};
 
+use crate::answers::verdict;
 use crate::desk;
-use sheet::{Caller, Verdict};
+use crate::records::Record;
+use sheet::Caller;
+
+// How many numbers a store has.
+const STORE_NUMBERS: usize = 193;
 
 // Whether the library refuses the sheet, and whether its listing of it is the stored text; whether the sheet is inside the
 // quote desk's ceiling, and whether the desk reads it as it must.
-#[derive(Clone, Copy)]
+#[derive(Clone, Copy, Debug)]
 pub struct Outcome {
     pub refused: bool,
     pub agrees: bool,
@@ -15,36 +20,34 @@ pub struct Outcome {
     pub desk_agrees: bool,
 }
 
-// Whether the library refuses the sheet.
-fn refused(store: &[u32], sheet: &[u8]) -> bool {
-    match sheet::verdict(store, sheet, Caller::Terminal) {
-        Verdict::Accepted(_) => false,
-        Verdict::Refused(_, _) => true,
+impl Outcome {
+    // Whether the listing and the desk's reading are as they must be.
+    pub fn is_as_stored(self) -> bool {
+        self.agrees && self.desk_agrees
     }
 }
 
 // Whether the listing of the sheet is the text, byte for byte.
-fn agrees(store: &[u32], sheet: &[u8], text: &[u8], room: &mut [u8]) -> bool
+fn agrees(store: &[u32], stored: Record<'_>, room: &mut [u8]) -> bool
     requires { list_room ≤ length room.old }
-    ensures sheet_value { result ≡ true → listing store.now sheet.now ≡ text.now }
-    ensures value { listing store.now sheet.now ≡ text.now → result ≡ true }
+    ensures { IsTrue result ↔ (listing store.now stored.entry.sheet.now ≡ stored.entry.text.now) }
 {
     let mut numbers = [0; listing::NUMBERS];
-    let n = listing::list(store, sheet, &mut numbers, room);
-    &room[..n] == text
+    let n = listing::list(store, stored.sheet, &mut numbers, room);
+    &room[..n] == stored.text
 }
 
 // How the sheet compares with its stored text, which is the listing with an empty store.
-pub fn compare(sheet: &[u8], text: &[u8], room: &mut [u8]) -> Outcome
+pub fn compare(stored: Record<'_>, room: &mut [u8]) -> Outcome
     requires { list_room ≤ length room.old }
-    ensures sheet_value { result.agrees ≡ true → listing (replicate 193 0) sheet.now ≡ text.now }
-    ensures agrees_value { listing (replicate 193 0) sheet.now ≡ text.now → result.agrees ≡ true }
+    ensures { IsTrue result.agrees ↔ (listing (replicate 193 0) stored.entry.sheet.now ≡ stored.entry.text.now) }
 {
-    let store = [0u32; 193];
+    let store = [0; STORE_NUMBERS];
+    let sheet = stored.sheet;
     Outcome {
-        refused: refused(&store, sheet),
-        agrees: agrees(&store, sheet, text, room),
-        inside: desk::inside(sheet),
+        refused: verdict(&store, sheet, Caller::Terminal).is_err(),
+        agrees: agrees(&store, stored, room),
+        inside: desk::is_inside(sheet),
         desk_agrees: desk::agrees(&store, sheet),
     }
 }

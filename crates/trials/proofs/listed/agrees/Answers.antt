@@ -1,4 +1,4 @@
-use Rattle.std.proofs.Common.{ℕ, ◌≡◌, ◌≤◌, List, ◌++◌, length, take, drop, ap, sym, ◌∙◌}
+use Rattle.std.proofs.Common.{ℕ, ◌≡◌, ◌≤◌, List, ◌++◌, length, take, drop, sym, ◌∙◌}
 use Rattle.std.proofs.lemmas.Bool.{le-ltb}
 use Rattle.std.proofs.lemmas.Bool.Decides.{Decides-eqb}
 use Rattle.std.proofs.lemmas.Slice.Eq.{slice_eq-Decides}
@@ -15,16 +15,10 @@ front store sheet old new n h e b =
     let t = le-ltb (length old) list_room h in
     let k : n ≡ length (listing store sheet) = e ∙ rw t in
     let w : new ≡ listing store sheet ++ drop (length (listing store sheet)) old = b ∙ rw t in
-    ap (λ (m : ℕ). take m new) k ∙ ap (take (length (listing store sheet))) w ∙ take-append_seam (listing store sheet) (drop (length (listing store sheet)) old)
+    rw (k, w) (take-append_seam (listing store sheet) (drop (length (listing store sheet)) old))
 
-pub returns-clause-sheet_value : goal.returns-clause-sheet_value
-returns-clause-sheet_value c =
-    let f = front c.args.store.now c.args.sheet.now c.args.room.now _ _ c.requires c.list-n.ensures.answer c.list-n.ensures.written in
+pub returns : goal.returns
+returns c =
+    let f = front c.args.store.now c.args.stored.sheet.now c.args.room.now _ _ c.requires c.list-n.ensures.answer c.list-n.ensures.written in
     let same = slice_eq-Decides Decides-eqb _ _ _ c.eq.ensures in
-    λ e. sym f ∙ same.0 e
-
-pub returns-clause-value : goal.returns-clause-value
-returns-clause-value c =
-    let f = front c.args.store.now c.args.sheet.now c.args.room.now _ _ c.requires c.list-n.ensures.answer c.list-n.ensures.written in
-    let same = slice_eq-Decides Decides-eqb _ _ _ c.eq.ensures in
-    λ e. same.1 (f ∙ e)
+    (λ e. sym f ∙ same.0 e, λ e. same.1 (f ∙ e))
