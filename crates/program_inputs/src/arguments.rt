@@ -2,28 +2,35 @@
 ghost use Rattle.std.specs.Prelude.{◌≤◌, length, IfOk};
 
 use std::env::{Env, FillError};
-use std::error::Error;
-use std::{fmt, str};
+use std::str;
+use std::str::Utf8Error;
+use thiserror::Error;
 
 // Why an argument can't be had as text.
-#[derive(Clone, Copy, Debug, PartialEq, Eq)]
+#[derive(Clone, Copy, Debug, PartialEq, Eq, Error)]
 pub enum ArgumentError {
+    #[error("there is no such argument")]
     Missing,
+    #[error("the argument is too long")]
     TooLong,
+    #[error("the argument is not text")]
     NotText,
 }
 
-impl fmt::Display for ArgumentError {
-    fn fmt<W: fmt::Write>(&self, f: &mut fmt::Formatter<W>) -> fmt::Result {
-        f.write_str(match *self {
-            ArgumentError::Missing => "there is no such argument",
-            ArgumentError::TooLong => "the argument is too long",
-            ArgumentError::NotText => "the argument is not text",
-        })
+impl From<FillError> for ArgumentError {
+    fn from(error: FillError) -> ArgumentError {
+        match error {
+            FillError::NotPresent => ArgumentError::Missing,
+            FillError::TooLong => ArgumentError::TooLong,
+        }
     }
 }
 
-impl Error for ArgumentError {}
+impl From<Utf8Error> for ArgumentError {
+    fn from(_: Utf8Error) -> ArgumentError {
+        ArgumentError::NotText
+    }
+}
 
 // An argument by its number, in the room that the caller lends. The program's name is number 0.
 pub fn argument<'a>(
@@ -33,11 +40,8 @@ pub fn argument<'a>(
 ) -> Result<&'a str, ArgumentError>
     ensures { IfOk result (λ text. length text.now ≤ length room.old) }
 {
-    match rt.arg(number, room) {
-        Ok(n) => str::from_utf8(&room[..n]).map_err(|_| ArgumentError::NotText),
-        Err(FillError::NotPresent) => Err(ArgumentError::Missing),
-        Err(FillError::TooLong) => Err(ArgumentError::TooLong),
-    }
+    let n = rt.arg(number, room)?;
+    Ok(str::from_utf8(&room[..n])?)
 }
 
 #[cfg(test)]

@@ -21,8 +21,7 @@ pub fn read_full<R: Read>(input: &mut R, room: &mut [u8]) -> io::Result<usize>
     let mut done = 0;
     while done < room.len() {
         let n = input.read(&mut room[done..])?;
-        let ended = n == 0;
-        if ended {
+        if n == 0 {
             return Ok(done);
         }
         done += n;
