@@ -3,11 +3,11 @@ use Prim.Native.Nat.{ℕ}
 use mathlib.Core.List.{List, [], ◌∷◌, ◌++◌}
 use mathlib.Core.Path.{◌≡◌, refl}
 use lib.ListN.{replicate}
-use Rattle.figures.specs.Store.{set_sound, sets_sound, store_refusal, none_begun, in_use, last_begun, set_in_use, day_refusal, figures_in_use}
+use Rattle.std.specs.Prelude.{Some, None, Ok, Err}
+use Rattle.figures.specs.Store.{set_sound, sets_sound, store_refusal, last_begun, set_in_use, day_refusal, figures_in_use}
 use Rattle.figures.specs.declared.national.National.{National}
-use Rattle.figures.specs.declared.site.JobDay.TheVariants.{Undated, Dated}
+use Rattle.figures.specs.declared.refusal.Refusal.TheVariants.{Store}
 use Rattle.added_sets.specs.Adding.{add_refusal, with_set, add_answer, store_after}
-use Rattle.added_sets.specs.declared.Added.TheVariants.{Count, NotAdded}
 
 abbrev empty : List ℕ
 empty = replicate 193 0
@@ -31,10 +31,10 @@ second = record { arch = 250; low = 60; high = 300; short = 1000; long = 30000 }
 
 -- no day, before the first set, on its day, before and on the second's day, long after
 pub days_in_use :
-    (set_in_use empty Undated ≡ in_use first) × (set_in_use empty (Dated 65535) ≡ none_begun) × (set_in_use two (Dated 99) ≡ none_begun)
-    × (set_in_use two (Dated 100) ≡ in_use first) × (set_in_use two (Dated 199) ≡ in_use first) × (set_in_use two (Dated 200) ≡ in_use second)
-    × (set_in_use two (Dated 65535) ≡ in_use second) × (set_in_use two Undated ≡ in_use first)
-    × (day_refusal two (Dated 99) ≡ 19) × (day_refusal two (Dated 100) ≡ 0) × (day_refusal empty Undated ≡ 0) × (figures_in_use two (Dated 200) ≡ second)
+    (set_in_use empty None ≡ Some first) × (set_in_use empty (Some 65535) ≡ None) × (set_in_use two (Some 99) ≡ None)
+    × (set_in_use two (Some 100) ≡ Some first) × (set_in_use two (Some 199) ≡ Some first) × (set_in_use two (Some 200) ≡ Some second)
+    × (set_in_use two (Some 65535) ≡ Some second) × (set_in_use two None ≡ Some first)
+    × (day_refusal two (Some 99) ≡ 19) × (day_refusal two (Some 100) ≡ 0) × (day_refusal empty None ≡ 0) × (figures_in_use two (Some 200) ≡ second)
 unfolding set_in_use last_begun day_refusal figures_in_use
 days_in_use = (refl, refl, refl, refl, refl, refl, refl, refl, refl, refl, refl, refl)
 
@@ -64,15 +64,15 @@ unfolding store_refusal sets_sound set_sound
 stores_refused = (refl, refl, refl, refl, refl, refl, refl, refl, refl, refl, refl, refl, refl, refl)
 
 pub sets_added :
-    (add_answer empty (100 ∷ 200 ∷ 80 ∷ 400 ∷ 5000 ∷ 15000 ∷ []) ≡ Count 1)
+    (add_answer empty (100 ∷ 200 ∷ 80 ∷ 400 ∷ 5000 ∷ 15000 ∷ []) ≡ Ok 1)
     × (store_after empty (100 ∷ 200 ∷ 80 ∷ 400 ∷ 5000 ∷ 15000 ∷ []) ≡ one)
-    × (add_answer one (200 ∷ 250 ∷ 60 ∷ 300 ∷ 1000 ∷ 30000 ∷ []) ≡ Count 2)
+    × (add_answer one (200 ∷ 250 ∷ 60 ∷ 300 ∷ 1000 ∷ 30000 ∷ []) ≡ Ok 2)
     × (store_after one (200 ∷ 250 ∷ 60 ∷ 300 ∷ 1000 ∷ 30000 ∷ []) ≡ two)
-    × (add_answer one (100 ∷ 250 ∷ 60 ∷ 300 ∷ 1000 ∷ 30000 ∷ []) ≡ NotAdded)
-    × (add_answer one (200 ∷ 250 ∷ 301 ∷ 300 ∷ 1000 ∷ 30000 ∷ []) ≡ NotAdded)
+    × (add_answer one (100 ∷ 250 ∷ 60 ∷ 300 ∷ 1000 ∷ 30000 ∷ []) ≡ Err Store)
+    × (add_answer one (200 ∷ 250 ∷ 301 ∷ 300 ∷ 1000 ∷ 30000 ∷ []) ≡ Err Store)
     × (store_after one (200 ∷ 250 ∷ 301 ∷ 300 ∷ 1000 ∷ 30000 ∷ []) ≡ one)
-    × (add_answer one (200 ∷ 250 ∷ 60 ∷ 300 ∷ 1000 ∷ []) ≡ NotAdded)
-    × (add_answer one (200 ∷ 250 ∷ 60 ∷ 300 ∷ 1000 ∷ 30000 ∷ 0 ∷ []) ≡ NotAdded)
-    × (add_answer [] (200 ∷ 250 ∷ 60 ∷ 300 ∷ 1000 ∷ 30000 ∷ []) ≡ NotAdded)
+    × (add_answer one (200 ∷ 250 ∷ 60 ∷ 300 ∷ 1000 ∷ []) ≡ Err Store)
+    × (add_answer one (200 ∷ 250 ∷ 60 ∷ 300 ∷ 1000 ∷ 30000 ∷ 0 ∷ []) ≡ Err Store)
+    × (add_answer [] (200 ∷ 250 ∷ 60 ∷ 300 ∷ 1000 ∷ 30000 ∷ []) ≡ Err Store)
 unfolding add_answer store_after add_refusal with_set store_refusal sets_sound set_sound
 sets_added = (refl, refl, refl, refl, refl, refl, refl, refl, refl, refl)

@@ -1,53 +1,17 @@
--- What the tests of adding a set make of its refusal, and the seven numbers that an added set alters.
-use Prim.Native.Nat.{ℕ, suc, ◌+◌, ◌≤◌, ◌<◌}
-use mathlib.Core.Bool.{Bool, true, cond, ◌&&◌}
-use mathlib.Core.List.{List, [], ◌∷◌}
-use mathlib.Core.Path.{◌≡◌}
-use borrow.Author.Tests.{eqb-true, ltb-true, eq-eqb, ne_eqb, lt-ltb, le-ltb}
+-- What an accepted addition keeps, and the seven numbers that it alters.
+use Prim.Native.Nat.{ℕ, ◌+◌, ◌≤◌, ◌<◌}
+use mathlib.Core.Bool.{true, ◌&&◌}
+use mathlib.Core.List.{List, [], ◌∷◌, ◌++◌, append_assoc}
+use mathlib.Core.Path.{◌≡◌, refl, sym, ap, ◌∙◌}
+use borrow.Author.Tests.{eqb-true, ltb-true}
 use lib.Dec.{ltb, eqb}
-use lib.ListN.{length, set}
-use lib.Seq.{sets}
+use lib.ListN.{length, set, take, drop, length-set}
+use lib.Seq.{sets, sets-eq, drop-drop}
 use native.Mathlib.Omega.{arith}
 use Rattle.figures.proofs.Laws.{both}
-use Rattle.figures.proofs.Stores.{zero_held}
-use Rattle.figures.specs.Store.{set_count, set_from, set_at, earliest_day, set_sound, store_refusal}
-use Rattle.figures.specs.declared.national.NationalSet.{NationalSet}
-use Rattle.added_sets.specs.Adding.{add_refusal, with_set, add_answer, store_after}
-use Rattle.added_sets.specs.declared.Added.TheVariants.{Count, NotAdded}
-
--- the set behind the first i is later than the last of them
-pub next_later : (run : ℕ → NationalSet) (i j : ℕ) (s : NationalSet) → s ≡ run j → i ≡ suc j → s.day + 1 ≡ earliest_day run i
-next_later run i j s e f = rw (f, ← e)
-
-module _ (store numbers : List ℕ) where
-  pub not_six : (length numbers ≡ 6 → ⊥) → 18 ≡ add_refusal store numbers
-  unfolding add_refusal
-  not_six h = rw (ne_eqb (length numbers) 6 h)
-
-  module _ (l : length numbers ≡ 6) (k : ℕ) (e : k ≡ store_refusal store) where
-    pub no_store : (k ≡ 0 → ⊥) → 18 ≡ add_refusal store numbers
-    unfolding add_refusal
-    no_store h = rw (eq-eqb (length numbers) 6 l, ← e, ne_eqb k 0 h)
-
-    module _ (h : k ≡ 0) (n : ℕ) (c : n ≡ set_count store) where
-      pub full : 32 ≤ n → 18 ≡ add_refusal store numbers
-      unfolding add_refusal
-      full g = rw (eq-eqb (length numbers) 6 l, ← e, eq-eqb k 0 h, ← c, le-ltb n 32 g)
-
-      pub by_set :
-          n < 32 → (b : Bool) → b ≡ set_sound (earliest_day (set_at store) n) (set_from numbers 0) → ◌≡◌ {A = ℕ} (cond b 0 18) (add_refusal store numbers)
-      unfolding add_refusal
-      by_set g b d = rw (eq-eqb (length numbers) 6 l, ← e, eq-eqb k 0 h, ← c, lt-ltb n 32 g, d)
-
-  -- what adding answers and leaves
-  module _ (k : ℕ) (e : k ≡ add_refusal store numbers) where
-    pub not_added : (k ≡ 0 → ⊥) → (NotAdded ≡ add_answer store numbers) × (store ≡ store_after store numbers)
-    unfolding add_answer store_after
-    not_added h = (rw (← e, ne_eqb k 0 h), rw (← e, ne_eqb k 0 h))
-
-    pub added : k ≡ 0 → (Count (set_count store + 1) ≡ add_answer store numbers) × (with_set store (set_from numbers 0) ≡ store_after store numbers)
-    unfolding add_answer store_after
-    added h = (rw (← e, eq-eqb k 0 h), rw (← e, eq-eqb k 0 h))
+use Rattle.figures.proofs.Stores.{zero_held, store_kept}
+use Rattle.figures.specs.Store.{set_count, set_start, set_from, set_at, earliest_day, set_sound, store_refusal}
+use Rattle.added_sets.specs.Adding.{add_refusal, set_numbers, with_set}
 
 -- what an accepted addition keeps
 pub record Addable (store numbers : List ℕ) : Type 0 where
@@ -73,14 +37,43 @@ addable store numbers h =
       sound = q.1;
     }
 
--- six numbers in a row
-pub six_in_a_row :
-    (l : List ℕ) (at a b c d e f : ℕ)
-    → set (set (set (set (set (set l at a) (at + 1) b) (at + 2) c) (at + 3) d) (at + 4) e) (at + 5) f ≡ sets l at (a ∷ b ∷ c ∷ d ∷ e ∷ f ∷ [])
-six_in_a_row l at a b c d e f =
-    let e₁ : at + 1 ≡ suc at = omega arith in
-    let e₂ : at + 2 ≡ suc (suc at) = omega arith in
-    let e₃ : at + 3 ≡ suc (suc (suc at)) = omega arith in
-    let e₄ : at + 4 ≡ suc (suc (suc (suc at))) = omega arith in
-    let e₅ : at + 5 ≡ suc (suc (suc (suc (suc at)))) = omega arith in
-    rw (e₁, e₂, e₃, e₄, e₅)
+-- so there is room for it behind the last set
+pub room_behind :
+    (store numbers : List ℕ) → eqb (add_refusal store numbers) 0 ≡ true → (set_count store < 32) × (length store ≡ 193) × (length numbers ≡ 6)
+room_behind store numbers h =
+    let a = addable store numbers (eqb-true (add_refusal store numbers) 0 h) in
+    (a.room, (store_kept store a.accepted).all, a.six)
+
+-- a set's six numbers are those that it was read from
+same_numbers : (numbers : List ℕ) → length numbers ≡ 6 → set_numbers (set_from numbers 0) ≡ numbers
+same_numbers [] h = absurd (omega arith)
+same_numbers (a ∷ []) h = absurd (omega arith)
+same_numbers (a ∷ b ∷ []) h = absurd (omega arith)
+same_numbers (a ∷ b ∷ c ∷ []) h = absurd (omega arith)
+same_numbers (a ∷ b ∷ c ∷ d ∷ []) h = absurd (omega arith)
+same_numbers (a ∷ b ∷ c ∷ d ∷ e ∷ []) h = absurd (omega arith)
+same_numbers (a ∷ b ∷ c ∷ d ∷ e ∷ f ∷ []) h = refl
+same_numbers (a ∷ b ∷ c ∷ d ∷ e ∷ f ∷ g ∷ rest) h = absurd (omega arith)
+
+-- numbers copied into a store
+written : (store numbers : List ℕ) (start : ℕ) → start + length numbers ≤ length store
+    → take start store ++ (numbers ++ drop (length numbers) (drop start store)) ≡ sets store start numbers
+written store numbers start k =
+    ap (λ l. take start store ++ (numbers ++ l)) (drop-drop (length numbers) start store)
+    ∙ sym (append_assoc (take start store) numbers (drop (start + length numbers) store))
+    ∙ sym (sets-eq numbers store start k)
+
+-- the store with the count that has risen, and a set's numbers copied behind the last one
+pub copied :
+    (store numbers : List ℕ) (n : ℕ) → n ≡ 6 → length numbers ≡ 6 → set_start (set_count store) + 6 ≤ length store
+    → take (set_start (set_count store)) (set store 0 (set_count store + 1))
+    ++ (numbers ++ drop n (drop (set_start (set_count store)) (set store 0 (set_count store + 1))))
+    ≡ with_set store (set_from numbers 0)
+unfolding with_set
+copied store numbers n six h k =
+    let counted : List ℕ = set store 0 (set_count store + 1) in
+    let start : ℕ = set_start (set_count store) in
+    let e : n ≡ length numbers = six ∙ sym h in
+    ap (λ (m : ℕ). take start counted ++ (numbers ++ drop m (drop start counted))) e
+    ∙ written counted numbers start (simp length-set (omega arith))
+    ∙ ap (sets counted start) (sym (same_numbers numbers h))

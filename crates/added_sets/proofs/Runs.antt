@@ -7,8 +7,9 @@ use borrow.Author.Tests.{le-leb, lt-leb}
 use lib.ListN.{length, get_or, set, length-set}
 use lib.Seq.{sets, get_or-set_same, get_or-set_other}
 use native.Mathlib.Numerals.{add-one}
+use Rattle.std.specs.Prelude.{Some}
 use native.Mathlib.Omega.{arith}
-use Rattle.figures.specs.Store.{earliest_day, set_sound, sets_sound, in_use, last_begun}
+use Rattle.figures.specs.Store.{earliest_day, set_sound, sets_sound, last_begun}
 use Rattle.figures.specs.declared.national.NationalSet.{NationalSet}
 
 -- two runs alike in their first n sets
@@ -42,7 +43,7 @@ module _ (S T : ℕ → NationalSet) where
     unfolding last_begun
     begun_before day h = rw (add-one n, added, lt-leb s.day day h, begun_alike day n same)
 
-    pub begun_since : (day : ℕ) → s.day ≤ day → last_begun S day (n + 1) ≡ in_use s.figures
+    pub begun_since : (day : ℕ) → s.day ≤ day → last_begun S day (n + 1) ≡ Some s.figures
     unfolding last_begun
     begun_since day h = rw (add-one n, added, le-leb s.day day h)
 

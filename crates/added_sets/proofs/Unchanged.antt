@@ -5,14 +5,13 @@ use mathlib.Core.List.{List}
 use mathlib.Core.Path.{◌≡◌, refl, ap, sym, ◌∙◌}
 use borrow.Author.Tests.{eqb-true}
 use lib.Dec.{eqb}
+use Rattle.std.specs.Prelude.{Option, Some, None}
 use lib.ListN.{length, get_or, set, length-set}
 use lib.Seq.{length-sets, get_or-set_same, get_or-set_other}
 use native.Mathlib.Omega.{arith}
 use Rattle.figures.proofs.Stores.{store_kept, store_accepted}
-use Rattle.figures.specs.Store.{set_count, set_start, set_from, set_at, store_refusal, in_use, last_begun, set_in_use, SameFor}
+use Rattle.figures.specs.Store.{set_count, set_start, set_from, set_at, store_refusal, last_begun, set_in_use, SameFor}
 use Rattle.figures.specs.declared.national.NationalSet.{NationalSet}
-use Rattle.figures.specs.declared.site.JobDay.{JobDay}
-use Rattle.figures.specs.declared.site.JobDay.TheVariants.{Undated, Dated}
 use Rattle.added_sets.specs.Adding.{add_refusal, set_numbers, with_set, store_after, JobBefore}
 use Rattle.added_sets.proofs.Judged.{addable}
 use Rattle.added_sets.proofs.Runs.{one_more, begun_before, begun_since, number_before, number_behind, number_in}
@@ -82,31 +81,31 @@ module _ (store numbers : List ℕ) (h : add_refusal store numbers ≡ 0) where
         sound = rw added_count_lem (one_more (set_at (with_set store s)) (set_at store) (set_count store) s old_sets added_set k.sound a.sound);
       })
 
-  same_before : (day : ℕ) → day < s.day → set_in_use (with_set store s) (Dated day) ≡ set_in_use store (Dated day)
+  same_before : (day : ℕ) → day < s.day → set_in_use (with_set store s) (Some day) ≡ set_in_use store (Some day)
   unfolding set_in_use
   same_before day p =
       ap (last_begun (set_at (with_set store s)) day) added_count_lem
       ∙ begun_before (set_at (with_set store s)) (set_at store) (set_count store) s old_sets added_set day p
 
   -- from its first day on the added set is in use
-  pub in_use_since : (day : ℕ) → s.day ≤ day → set_in_use (with_set store s) (Dated day) ≡ in_use s.figures
+  pub in_use_since : (day : ℕ) → s.day ≤ day → set_in_use (with_set store s) (Some day) ≡ Some s.figures
   unfolding set_in_use
   in_use_since day p =
       ap (last_begun (set_at (with_set store s)) day) added_count_lem
       ∙ begun_since (set_at (with_set store s)) (set_at store) (set_count store) s old_sets added_set day p
 
-  alike_before : (day : JobDay) → JobBefore day s.day → SameFor (with_set store s) store day
+  alike_before : (day : Option ℕ) → JobBefore day s.day → SameFor (with_set store s) store day
   unfolding set_in_use
-  alike_before Undated p = record { refusal = still_accepted ∙ sym (addable store numbers h).accepted; set = refl }
-  alike_before (Dated day) p = record { refusal = still_accepted ∙ sym (addable store numbers h).accepted; set = same_before day p }
+  alike_before None p = record { refusal = still_accepted ∙ sym (addable store numbers h).accepted; set = refl }
+  alike_before (Some day) p = record { refusal = still_accepted ∙ sym (addable store numbers h).accepted; set = same_before day p }
 
 -- "no job dated before the set changes": whatever the store and the numbers are, added or refused
 unchanged_by :
-    (b : Bool) (store numbers : List ℕ) (day : JobDay) → eqb (add_refusal store numbers) 0 ≡ b → JobBefore day (set_from numbers 0).day
+    (b : Bool) (store numbers : List ℕ) (day : Option ℕ) → eqb (add_refusal store numbers) 0 ≡ b → JobBefore day (set_from numbers 0).day
     → SameFor (cond b (with_set store (set_from numbers 0)) store) store day
 unchanged_by true store numbers day e p = alike_before store numbers (eqb-true (add_refusal store numbers) 0 e) day p
 unchanged_by false store numbers day e p = record { refusal = refl; set = refl }
 
-pub unchanged_before : (store numbers : List ℕ) (day : JobDay) → JobBefore day (set_from numbers 0).day → SameFor (store_after store numbers) store day
+pub unchanged_before : (store numbers : List ℕ) (day : Option ℕ) → JobBefore day (set_from numbers 0).day → SameFor (store_after store numbers) store day
 unfolding store_after
 unchanged_before store numbers day p = unchanged_by (eqb (add_refusal store numbers) 0) store numbers day refl p

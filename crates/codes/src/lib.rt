@@ -1,25 +1,95 @@
-// Which arrangements and local forces exist, by the documents' numbers.
+// Which arrangements and local forces exist, and which valley a code names.
 #![tactic(auto)]
 
-ghost use Rattle.std.specs.Prelude.{◌≡◌, ◌≤◌};
-ghost use Rattle.standard.specs.Codes.{persistent_by, drifts_in, accidental, base_code, names_valley, valley_named, exists_in, last_code, forces_in};
+ghost use Rattle.std.specs.Prelude.{◌≡◌, ◌≤◌, true, cond, Some, None};
+ghost use Rattle.figures.specs.Kind.{kind_number};
+ghost use Rattle.figures.specs.RoofRules.{kind_of, span_count};
+ghost use Rattle.standard.specs.Codes.{persistent_by, drifts_in, accidental, base_code, accidental_in, names_valley, valley_named, exists_in, last_code, forces_in};
+
+use figures::{Kind, Shape};
+
+// What the codes of a roof depend on: its kind, the situation, and its number of spans, which is 0 where it is not multi-span. Codes are
+// document 01's numbers, since a call may ask for any.
+#[derive(Clone, Copy, Debug, PartialEq, Eq)]
+pub struct RoofCodes {
+    pub kind: Kind,
+    pub situation: u8,
+    pub spans: u8,
+}
+
+impl RoofCodes {
+    // The codes of a roof of a shape.
+    pub fn of(shape: Shape, situation: u8) -> Self
+        ensures { (kind_number result.kind ≡ kind_of shape) × (result.situation ≡ situation) × (result.spans ≡ span_count shape) }
+    {
+        RoofCodes {
+            kind: shape.kind(),
+            situation,
+            spans: shape.span_count(),
+        }
+    }
+
+    // Whether a roof has drifts in its valleys, in place of code 2.
+    fn has_drifts(self) -> bool
+        ensures { result ≡ drifts_in (kind_number self.kind) self.situation }
+    {
+        self.kind == Kind::DriftedMultiSpan && (2..=3).contains(&self.situation)
+    }
+
+    // Whether the accidental code of a shape exists where its persistent one does.
+    fn has_accidental(self, code: u8) -> bool
+        requires { accidental code ≡ true }
+        ensures { result ≡ accidental_in (kind_number self.kind) self.situation code }
+    {
+        let allowed = self.situation == 1 || self.situation == 3 && code == 11;
+        allowed && self.kind != Kind::Projection && is_persistent(self.kind, code - 10)
+    }
+
+    // Whether an arrangement exists.
+    #[tactic(auto, unfolding(standard::specs::Codes::exists_in))]
+    pub fn has(self, code: u8) -> bool
+        ensures { result ≡ exists_in (kind_number self.kind) self.situation self.spans code }
+    {
+        if is_accidental(code) {
+            return self.has_accidental(code);
+        }
+        let drifts = self.has_drifts();
+        is_persistent(self.kind, code) && !(drifts && code == 2)
+            || drifts && named_valley(self.spans, code).is_some()
+    }
+
+    // The last code that may exist.
+    pub fn last(self) -> u8
+        requires { self.spans ≤ 16 }
+        ensures { result ≡ last_code (kind_number self.kind) self.situation self.spans }
+    {
+        if self.has_drifts() {
+            29 + self.spans
+        } else {
+            13
+        }
+    }
+}
 
 // Whether a kind has the shape of a persistent code.
-fn is_persistent(kind: u8, code: u8) -> bool
-    ensures { result ≡ persistent_by kind code }
+fn is_persistent(kind: Kind, code: u8) -> bool
+    ensures { result ≡ persistent_by (kind_number kind) code }
 {
-    ((kind == 2) & (code == 1))
-        | ((kind == 3) & ((1 <= code) & (code <= 3)))
-        | ((((4 <= kind) & (kind <= 6)) | ((9 <= kind) & (kind <= 10)))
-            & ((1 <= code) & (code <= 2)))
-        | ((kind == 7) & (code == 2))
+    match kind {
+        Kind::Monopitch => code == 1,
+        Kind::Pitched => (1..=3).contains(&code),
+        Kind::MultiSpan | Kind::DriftedMultiSpan => (1..=2).contains(&code),
+        Kind::Cylindrical | Kind::Abutting | Kind::Stepped => (1..=2).contains(&code),
+        Kind::Projection => code == 2,
+        Kind::Site | Kind::MapSite => false,
+    }
 }
 
 // Whether a code is one of the accidental ones, which are the shapes of 1, 2 and 3.
 pub fn is_accidental(code: u8) -> bool
     ensures { result ≡ accidental code }
 {
-    (11 <= code) & (code <= 13)
+    (11..=13).contains(&code)
 }
 
 // The persistent code of the same shape.
@@ -29,55 +99,17 @@ pub fn base_code(code: u8) -> u8
     if is_accidental(code) { code - 10 } else { code }
 }
 
-// Whether a kind has drifts in its valleys in a situation, in place of code 2.
-fn has_drifts(kind: u8, situation: u8) -> bool
-    ensures { result ≡ drifts_in kind situation }
+// The valley that a code names between so many spans, from 0 at the left.
+pub fn named_valley(spans: u8, code: u8) -> Option<usize>
+    ensures { result ≡ cond (names_valley spans code) (Some (valley_named code)) None }
 {
-    (kind == 9) & ((2 <= situation) & (situation <= 3))
-}
-
-// Whether a code names a valley of a roof with so many spans.
-pub fn names_valley(spans: u8, code: u8) -> bool
-    ensures { result ≡ names_valley spans code }
-{
-    (31 <= code) & (code as u16 <= 29 + spans as u16)
-}
-
-// The valley that a code names, from 0 at the left.
-pub fn valley_named(code: u8) -> usize
-    requires { 31 ≤ code }
-    ensures { result ≡ valley_named code }
-{
-    (code - 31) as usize
-}
-
-// Whether an arrangement exists for a kind with so many spans in a situation.
-pub fn has_code(kind: u8, situation: u8, spans: u8, code: u8) -> bool
-    ensures { result ≡ exists_in kind situation spans code }
-{
-    if is_accidental(code) {
-        let allowed = (situation == 1) | ((situation == 3) & (code == 11));
-        return allowed & !(kind == 7) & is_persistent(kind, code - 10);
-    }
-    let drifts = has_drifts(kind, situation);
-    (is_persistent(kind, code) & !(drifts & (code == 2))) | (drifts & names_valley(spans, code))
-}
-
-// The last code that a kind with so many spans may have in a situation.
-pub fn last_code(kind: u8, situation: u8, spans: u8) -> u8
-    requires { spans ≤ 16 }
-    ensures { result ≡ last_code kind situation spans }
-{
-    if has_drifts(kind, situation) {
-        29 + spans
-    } else {
-        13
-    }
+    let valley = code.checked_sub(31)?;
+    (valley < spans.saturating_sub(1)).then_some(usize::from(valley))
 }
 
 // Whether a kind has local forces.
-pub fn has_forces(kind: u8) -> bool
-    ensures { result ≡ forces_in kind }
+pub fn has_forces(kind: Kind) -> bool
+    ensures { result ≡ forces_in (kind_number kind) }
 {
-    (2 <= kind) & (kind <= 3)
+    matches!(kind, Kind::Monopitch | Kind::Pitched)
 }

@@ -1,38 +1,45 @@
-// Counts of answers: those compared in the lower half, and those that differ in the upper half.
+// Counts of answers: how many were compared, and how many of them differ.
 #![tactic(auto)]
 
-// One answer that differs.
-pub const DIFFERENT: u64 = 4_294_967_296;
+ghost use Rattle.std.specs.Prelude.{◌≡◌, ◌+◌, ◌-◌, ◌^◌, min, cond};
 
-// Stores of national sets accepted, and stores refused.
-#[derive(Clone, Copy)]
-pub struct Stores {
-    pub accepted: u64,
-    pub refused: u64,
+use std::fmt;
+
+// Answers that were compared with what was expected of them.
+#[derive(Clone, Copy, Debug, Default, PartialEq, Eq)]
+pub struct Compared {
+    pub answers: u64,
+    pub different: u64,
 }
 
-// National sets added, and sets refused.
-#[derive(Clone, Copy)]
-pub struct Sets {
-    pub added: u64,
-    pub refused: u64,
-}
-
-// More by some, of which there are less than 100.
-pub fn more(count: u64, n: usize) -> u64 {
-    if count < 9_000_000_000_000_000_000 {
-        count + (n % 100) as u64
-    } else {
-        count
+impl Compared {
+    // Counts one more answer, and whether it differs.
+    pub fn compare(&mut self, differs: bool)
+        ensures answers { self.new.answers ≡ min (self.old.answers + 1) (2 ^ 64 - 1) }
+        ensures different { self.new.different ≡ min (self.old.different + cond differs 1 0) (2 ^ 64 - 1) }
+    {
+        self.answers = self.answers.saturating_add(1);
+        self.different = self.different.saturating_add(u64::from(differs));
     }
 }
 
-// One more answer, and whether it differs.
-pub fn compared(count: u64, other: bool) -> u64 {
-    if other {
-        if count < 9_000_000_000_000_000_000 {
-            return count + DIFFERENT + 1;
-        }
+impl fmt::Display for Compared {
+    fn fmt<W: fmt::Write>(&self, f: &mut fmt::Formatter<W>) -> fmt::Result {
+        let Compared { answers, different } = *self;
+        write!(f, "{answers} DIFFERENT {different}")
     }
-    more(count, 1)
+}
+
+// Answers of calls that may refuse what they are given: those where it is accepted, and those where it is refused.
+#[derive(Clone, Copy, Debug, Default, PartialEq, Eq)]
+pub struct Verdicts {
+    pub accepted: Compared,
+    pub refused: Compared,
+}
+
+impl fmt::Display for Verdicts {
+    fn fmt<W: fmt::Write>(&self, f: &mut fmt::Formatter<W>) -> fmt::Result {
+        let Verdicts { accepted, refused } = *self;
+        write!(f, "{accepted} REFUSED {refused}")
+    }
 }

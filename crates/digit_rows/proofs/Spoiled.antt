@@ -5,7 +5,7 @@ use mathlib.Core.List.{List, [], ◌∷◌, ◌++◌, append_assoc}
 use native.Mathlib.Nat.{pow-suc, div-one, div-div-eq-div-mul}
 use native.Mathlib.Numerals.{add-one}
 use native.Mathlib.Omega.{arith}
-use lib.ListN.{length, set, take, drop, length-append, length-drop, length-set, take-append-drop}
+use lib.ListN.{length, get_or, set, take, drop, length-append, length-drop, length-set, take-append-drop}
 use lib.Seq.{sets, length-sets, set-set, set_comm}
 use Rattle.std.specs.Int.{byte_at, bytes_low_first}
 use Rattle.text.specs.Text.{decimal, field, row}
@@ -118,6 +118,18 @@ word {a} {b} {text} w len behind e p s t some most =
       size = ap length e ∙ (length-set (sets old at (bytes_of 8 w)) (at + len) behind ∙ length-sets old at (bytes_of 8 w));
       same = s;
     }
+
+-- a row in six fields
+pub six :
+    (i k : ℕ) (segment : List ℕ) {s e l m : ℕ} → length segment ≡ 4
+    → s ≡ get_or segment 0 0 → e ≡ get_or segment 1 0 → l ≡ get_or segment 2 0 → m ≡ get_or segment 3 0
+    → field i 32 ++ (field k 32 ++ (field s 32 ++ (field e 32 ++ (field l 32 ++ field m 10)))) ≡ row (i ∷ k ∷ segment)
+six i k [] h p q r t = absurd (omega arith)
+six i k (a ∷ []) h p q r t = absurd (omega arith)
+six i k (a ∷ b ∷ []) h p q r t = absurd (omega arith)
+six i k (a ∷ b ∷ c ∷ []) h p q r t = absurd (omega arith)
+six i k (a ∷ b ∷ c ∷ d ∷ []) h p q r t = rw (p, q, r, t)
+six i k (a ∷ b ∷ c ∷ d ∷ f ∷ xs) h p q r t = absurd (omega arith)
 
 -- a row has a byte for each number at least, so that one of six numbers writes over all that is spoiled
 pub row_covers : (ns : List ℕ) → length ns ≤ length (row ns)

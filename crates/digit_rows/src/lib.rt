@@ -1,12 +1,13 @@
-// The row of a segment from digits that are held in words. Eight bytes are written at a time, and those of them that are no text are written over next.
+// The row of a segment from digits that are held in words. Eight bytes are written at a time, and those of them that are no text are
+// written over next.
 #![tactic(auto)]
 
-ghost use Rattle.std.specs.Prelude.{◌+◌, ◌≤◌, ◌<◌, ◌≡◌, [], ◌∷◌, length};
+ghost use Rattle.std.specs.Prelude.{◌+◌, ◌≤◌, ◌<◌, ◌≡◌, ◌∷◌, length, All};
 ghost use Rattle.text.specs.Text.{field, row};
 ghost use Rattle.digit_rows.specs.Loosely.{Loose};
 
 use digits::{Digits, LONG};
-use plain_rows::put_segment;
+use plain_rows::{Heading, put_segment};
 use text::Writer;
 
 // The item and the code that every row begins with, and the last end and load, which are mostly the next row's start and first load.
@@ -32,12 +33,12 @@ fn put_digits(out: &mut Writer, digits: Digits, behind: u8)
 }
 
 impl Rows {
-    pub fn new(item: u32, code: u32) -> Rows
-        requires { (item < 100000000) × (code < 100000000) }
-        ensures { (result.item.number ≡ item) × (result.code.number ≡ code) }
+    pub fn new(heading: Heading) -> Rows
+        requires { (heading.item < 100000000) × (heading.code < 100000000) }
+        ensures { (result.item.number ≡ heading.item) × (result.code.number ≡ heading.code) }
     {
-        let item = Digits::of(item);
-        let code = Digits::of(code);
+        let item = Digits::of(heading.item);
+        let code = Digits::of(heading.code);
         Rows {
             item,
             code,
@@ -46,14 +47,15 @@ impl Rows {
         }
     }
 
-    // Writes the row of a segment of short numbers: start, end, and the loads there.
-    fn put_short(&mut self, start: u32, end: u32, first: u32, second: u32, out: &mut Writer)
-        requires short { (start < 100000000) × (end < 100000000) × (first < 100000000) × (second < 100000000) }
+    // Writes the row of a segment of short numbers. Start and loads are mostly those of the row before.
+    fn put_short(&mut self, segment: &[u32; 4], out: &mut Writer)
+        requires short { All (λ number. number < 100000000) segment.now }
         requires room { out.old.at + 66 ≤ length out.old.bytes.now }
-        ensures loose { Loose 6 out.old (row (self.old.item.number ∷ self.old.code.number ∷ start ∷ end ∷ first ∷ second ∷ [])) out.new }
+        ensures loose { Loose 6 out.old (row (self.old.item.number ∷ self.old.code.number ∷ segment.now)) out.new }
         ensures upper_bound { out.new.at ≤ out.old.at + 66 }
         ensures same { (self.new.item ≡ self.old.item) × (self.new.code ≡ self.old.code) }
     {
+        let [start, end, first, second] = *segment;
         let start = self.end.or_of(start);
         self.end = Digits::of(end);
         let first = self.load.or_of(first);
@@ -73,10 +75,13 @@ impl Rows {
         ensures upper_bound { out.new.at ≤ out.old.at + 66 }
         ensures same { (self.new.item ≡ self.old.item) × (self.new.code ≡ self.old.code) }
     {
-        let [start, end, first, second] = *segment;
-        if start < LONG && end < LONG && first < LONG && second < LONG {
-            return self.put_short(start, end, first, second, out);
+        if segment.iter().all(|number| *number < LONG) {
+            return self.put_short(segment, out);
         }
-        put_segment(out, self.item.number, self.code.number, segment);
+        let heading = Heading {
+            item: self.item.number,
+            code: self.code.number,
+        };
+        put_segment(out, heading, segment);
     }
 }

@@ -23,7 +23,7 @@ pub struct Digits {
     pub ghost most: { len ≤ 8 },
 }
 
-// How many digits a number of at most four has, without a branch.
+// How many digits a number of at most four has. By `ilog10`, as `text` counts them, a listing takes 4 % longer.
 fn count(number: u32) -> usize
     requires { number < 10000 }
     ensures value { result ≡ length (decimal number) }
@@ -42,7 +42,7 @@ fn short(number: u32) -> Digits
     Digits { number, word, len }
 }
 
-// The digits of a number of five to eight.
+// The digits of a number of five to eight. Apart from `short`: one function for both would ask again which of them it is.
 fn long(number: u32) -> Digits
     requires { (10000 ≤ number) × (number < 100000000) }
     ensures { result.number ≡ number }

@@ -11,7 +11,7 @@ fn pair(number: usize) -> u64
     requires { number < 100 }
     ensures { (result ≡ pair_word number) × (result < 65536) }
 {
-    u16::from_le_bytes([PAIRS[2 * number], PAIRS[2 * number + 1]]) as u64
+    u64::from(u16::from_le_bytes([PAIRS[2 * number], PAIRS[2 * number + 1]]))
 }
 
 // Four digits as a word.

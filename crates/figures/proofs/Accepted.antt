@@ -2,19 +2,21 @@
 use Prim.Native.Nat.{ℕ, zero, suc, ◌*◌, ◌≤◌, ◌<◌}
 use mathlib.Core.Path.{◌≡◌}
 use mathlib.Core.Bool.{Bool, true, false, not, ◌&&◌}
-use mathlib.Core.List.{List}
 use mathlib.Core.Logic.{⊎_elim}
 use borrow.Author.Tests.{leb-true, ltb-false, not-false}
 use lib.Dec.{leb, ltb}
 use native.Mathlib.Nat.{eq-or-lt_of_le}
 use native.Mathlib.Omega.{arith}
-use Rattle.figures.specs.Bounds.{Within, SiteIn, SlopeIn, ShapeIn}
+use Rattle.figures.specs.Bounds.{Within, SiteIn, SlopeIn, GuardedIn, ShapeIn}
 use Rattle.figures.specs.Ranges.{within}
 use Rattle.figures.specs.Rules.{refused_if}
 use Rattle.figures.specs.SiteRules.{ground_field, other_fields, site_fields, site_refusal}
-use Rattle.figures.specs.RoofRules.{span_count, slope_of, slope_fields, slopes_fields, span_fields, widest_upper, shape_refusal}
+use Rattle.figures.specs.RoofRules.{span_count, slope_fields, guarded_fields, slopes_fields, span_fields, widest_upper, shape_refusal}
+use Rattle.figures.specs.Spans.{slope_of}
 use Rattle.figures.specs.declared.site.Site.{Site}
-use Rattle.figures.specs.declared.roof.Slope.{Slope}
+use Rattle.figures.specs.declared.slopes.Slope.{Slope}
+use Rattle.figures.specs.declared.slopes.GuardedSlope.{GuardedSlope}
+use Rattle.figures.specs.declared.slopes.Spans.{Spans}
 use Rattle.figures.specs.declared.roof.Shape.{Shape}
 use Rattle.figures.specs.declared.roof.Shape.TheVariants.{Monopitch, Pitched, MultiSpan, Cylindrical, Abutting, Projection}
 use Rattle.figures.proofs.Laws.{both, within_in, kept, none_broken}
@@ -52,7 +54,12 @@ slope_in s h =
     let p = both (leb s.pitch 800) (within 1 100000 s.width) h in
     record { pitch = leb-true s.pitch 800 p.0; width = range 1 100000 s.width p.1 }
 
-each_slope : (l : List ℕ) (n : ℕ) → slopes_fields l n ≡ true → (i : ℕ) → i < n → SlopeIn (slope_of l i)
+guarded_in : (s : GuardedSlope) → guarded_fields s ≡ true → GuardedIn s
+guarded_in s h =
+    let p = both (slope_fields s.slope) (leb s.guard 1) h in
+    record { slope = slope_in s.slope p.0; guard = leb-true s.guard 1 p.1 }
+
+each_slope : (l : Spans) (n : ℕ) → slopes_fields l n ≡ true → (i : ℕ) → i < n → SlopeIn (slope_of l i)
 unfolding slopes_fields
 each_slope l zero h i lt = absurd (omega arith)
 each_slope l (suc n) h i lt =
@@ -70,46 +77,44 @@ widest false b1 h =
     record { low = p.low; high = omega (arith, p.high) }
 
 -- what the rules tell, kind by kind
-pub shape_in : (sh : Shape) (l : List ℕ) → shape_refusal sh l ≡ 0 → ShapeIn sh l
+pub shape_in : (sh : Shape) (l : Spans) → shape_refusal sh l ≡ 0 → ShapeIn sh l
 unfolding shape_refusal
-shape_in (Monopitch slope guard) l h =
-    let p = both (slope_fields slope) (leb guard 1) (sound _ 8 (omega arith) h) in
-    record { slope = slope_in slope p.0; guard = leb-true guard 1 p.1 }
-shape_in (Pitched left right left_guard right_guard) l h =
-    let p = both (slope_fields left && slope_fields right && leb left_guard 1) (leb right_guard 1) (sound _ 8 (omega arith) h) in
-    let q = both (slope_fields left && slope_fields right) (leb left_guard 1) p.0 in
-    let r = both (slope_fields left) (slope_fields right) q.0 in
-    record { left = slope_in left r.0; right = slope_in right r.1; left_guard = leb-true left_guard 1 q.1; right_guard = leb-true right_guard 1 p.1 }
+shape_in (Monopitch slope) l h = guarded_in slope (sound _ 8 (omega arith) h)
+shape_in (Pitched left right) l h =
+    let p = both (guarded_fields left) (guarded_fields right) (sound _ 8 (omega arith) h) in
+    record { left = guarded_in left p.0; right = guarded_in right p.1 }
 shape_in (MultiSpan count drifts) l h =
     let p = both (within 2 16 count) (span_fields drifts l count) (sound _ 8 (omega arith) (none_broken _ _ h).0) in
     record { count = range 2 16 count p.0; spans = each_slope l (2 * count) (both (slopes_fields l (2 * count)) _ p.1).0 }
-shape_in (Cylindrical rise span) l h =
+shape_in (Cylindrical arch) l h =
     let b = none_broken _ _ h in
-    let p = both (within 1 15000 rise) (within 2 30000 span) (sound _ 8 (omega arith) b.0) in
-    record { rise = range 1 15000 rise p.0; span = range 2 30000 span p.1; half = ltb-false span (2 * rise) (kept _ 10 (omega arith) b.1) }
-shape_in (Abutting b1 b2 h slope guard stepped) l e =
-    let upper = within 1 (widest_upper stepped) b1 in
-    let p = both (upper && within 1 100000 b2 && within 1 30000 h && slope_fields slope) (leb guard 1) (sound _ 8 (omega arith) e) in
-    let q = both (upper && within 1 100000 b2 && within 1 30000 h) (slope_fields slope) p.0 in
-    let r = both (upper && within 1 100000 b2) (within 1 30000 h) q.0 in
-    let t = both upper (within 1 100000 b2) r.0 in
+    let p = both (within 1 15000 arch.rise) (within 2 30000 arch.span) (sound _ 8 (omega arith) b.0) in
     record {
-      upper = widest stepped b1 t.0;
-      lower = range 1 100000 b2 t.1;
-      step = range 1 30000 h r.1;
-      slope = slope_in slope q.1;
-      guard = leb-true guard 1 p.1;
+      rise = range 1 15000 arch.rise p.0;
+      span = range 2 30000 arch.span p.1;
+      half = ltb-false arch.span (2 * arch.rise) (kept _ 10 (omega arith) b.1);
     }
-shape_in (Projection h left right) l e =
-    let p = both (within 1 30000 h && within 1 100000 left) (within 1 100000 right) (sound _ 8 (omega arith) e) in
-    let q = both (within 1 30000 h) (within 1 100000 left) p.0 in
-    record { height = range 1 30000 h q.0; left = range 1 100000 left q.1; right = range 1 100000 right p.1 }
+shape_in (Abutting lower) l e =
+    let upper = within 1 (widest_upper lower.stepped) lower.b1 in
+    let p = both (upper && within 1 100000 lower.b2 && within 1 30000 lower.h) (guarded_fields lower.slope) (sound _ 8 (omega arith) e) in
+    let q = both (upper && within 1 100000 lower.b2) (within 1 30000 lower.h) p.0 in
+    let r = both upper (within 1 100000 lower.b2) q.0 in
+    record {
+      upper = widest lower.stepped lower.b1 r.0;
+      lower = range 1 100000 lower.b2 r.1;
+      step = range 1 30000 lower.h q.1;
+      slope = guarded_in lower.slope p.1;
+    }
+shape_in (Projection p) l e =
+    let f = both (within 1 30000 p.h && within 1 100000 p.left) (within 1 100000 p.right) (sound _ 8 (omega arith) e) in
+    let g = both (within 1 30000 p.h) (within 1 100000 p.left) f.0 in
+    record { height = range 1 30000 p.h g.0; left = range 1 100000 p.left g.1; right = range 1 100000 p.right f.1 }
 
 -- no roof has more than 16 spans
-pub few_spans : (sh : Shape) (l : List ℕ) → ShapeIn sh l → span_count sh ≤ 16
-few_spans (Monopitch slope guard) l f = omega arith
-few_spans (Pitched left right left_guard right_guard) l f = omega arith
+pub few_spans : (sh : Shape) (l : Spans) → ShapeIn sh l → span_count sh ≤ 16
+few_spans (Monopitch slope) l f = omega arith
+few_spans (Pitched left right) l f = omega arith
 few_spans (MultiSpan count drifts) l f = f.count.high
-few_spans (Cylindrical rise span) l f = omega arith
-few_spans (Abutting b1 b2 h slope guard stepped) l f = omega arith
-few_spans (Projection h left right) l f = omega arith
+few_spans (Cylindrical arch) l f = omega arith
+few_spans (Abutting lower) l f = omega arith
+few_spans (Projection p) l f = omega arith

@@ -2,6 +2,7 @@
 use Prim.Native.Nat.{ℕ, zero, suc, ◌+◌, ◌≤◌, ◌<◌}
 use mathlib.Core.Bool.{Bool, true, false, cond, ◌&&◌}
 use mathlib.Core.List.{List}
+use Rattle.std.specs.Prelude.{Option, Some, None}
 use mathlib.Core.Path.{◌≡◌, refl}
 use borrow.Author.Tests.{leb-true, eqb-true, eq-eqb, le-leb, lt-leb}
 use lib.Dec.{leb, eqb}
@@ -14,11 +15,9 @@ use Rattle.figures.specs.Refusals.{figures_refusal}
 use Rattle.figures.specs.RoofRules.{roof_refusal}
 use Rattle.figures.specs.SiteRules.{site_refusal}
 use Rattle.figures.specs.Store.{set_count, set_at, earliest_day, set_sound, sets_sound, store_fits, store_refusal}
-use Rattle.figures.specs.Store.{InUse, none_begun, in_use, last_begun, set_in_use, begun_number, day_refusal, begun_figures, figures_in_use}
+use Rattle.figures.specs.Store.{last_begun, set_in_use, begun_number, day_refusal, begun_figures, figures_in_use}
 use Rattle.figures.specs.declared.national.National.{National}
 use Rattle.figures.specs.declared.national.NationalSet.{NationalSet}
-use Rattle.figures.specs.declared.site.JobDay.{JobDay}
-use Rattle.figures.specs.declared.site.JobDay.TheVariants.{Undated, Dated}
 use Rattle.figures.specs.declared.site.Site.{Site}
 use Rattle.figures.specs.declared.roof.Roof.{Roof}
 use Rattle.figures.proofs.Accepted.{range}
@@ -77,11 +76,11 @@ set_in : (first : ℕ) (s : NationalSet) → set_sound first s ≡ true → Nati
 unfolding set_sound
 set_in first s h = figures_in s.figures (both (within first 65535 s.day) (figures_sound s.figures) h).1
 
-chosen_in : (b : Bool) (rest : InUse) (g : National) → NationalIn g → NationalIn (begun_figures rest) → NationalIn (begun_figures (cond b (in_use g) rest))
+chosen_in : (b : Bool) (rest : Option National) (g : National) → NationalIn g → NationalIn (begun_figures rest) → NationalIn (begun_figures (cond b (Some g) rest))
 chosen_in true rest g h k = h
 chosen_in false rest g h k = k
 
-chosen_number : (b : Bool) (rest : InUse) (g : National) → begun_number rest ≡ 0 → begun_number (cond b (in_use g) rest) ≡ 0
+chosen_number : (b : Bool) (rest : Option National) (g : National) → begun_number rest ≡ 0 → begun_number (cond b (Some g) rest) ≡ 0
 chosen_number true rest g h = refl
 chosen_number false rest g h = h
 
@@ -103,7 +102,7 @@ module _ (run : ℕ → NationalSet) (day : ℕ) where
       omega (arith, first_least n p.0, (within_in ((run n).day + 1) 65535 (run (suc n)).day q.0).0)
 
   -- so none has begun before the first, and one has from its first day on
-  pub none_yet : (n : ℕ) → sets_sound run n ≡ true → day < (run 0).day → last_begun run day n ≡ none_begun
+  pub none_yet : (n : ℕ) → sets_sound run n ≡ true → day < (run 0).day → last_begun run day n ≡ None
   unfolding sets_sound last_begun
   none_yet zero h k = refl
   none_yet (suc n) h k =
@@ -116,10 +115,10 @@ module _ (run : ℕ → NationalSet) (day : ℕ) where
   one_begun (suc n) k = chosen_number (leb (run (suc n)).day day) (last_begun run day (suc n)) (run (suc n)).figures (one_begun n k)
 
 -- the set in use of an accepted store keeps the ranges of a set
-pub in_use_in : (store : List ℕ) (day : JobDay) → store_refusal store ≡ 0 → NationalIn (figures_in_use store day)
+pub in_use_in : (store : List ℕ) (day : Option ℕ) → store_refusal store ≡ 0 → NationalIn (figures_in_use store day)
 unfolding figures_in_use set_in_use
-in_use_in store Undated h = recommended_in
-in_use_in store (Dated day) h = begun_in (set_at store) day (set_count store) (store_kept store h).sound
+in_use_in store None h = recommended_in
+in_use_in store (Some day) h = begun_in (set_at store) day (set_count store) (store_kept store h).sound
 
 -- figures that no rule refuses, with their store: "a store that 18 doesn't refuse and a site that 19 doesn't" (document 02, A8)
 pub record Accepted (store : List ℕ) (s : Site) (r : Roof) : Type 0 where

@@ -1,10 +1,18 @@
 -- The bounds that accepted figures keep. The lemmas that give them are `site_in`, `shape_in` and `figures_in` of proofs/Accepted.
-use Rattle.std.specs.Prelude.{ℕ, ◌*◌, ◌≤◌, ◌<◌, List}
-use Rattle.figures.specs.RoofRules.{slope_of}
+use Rattle.std.specs.Prelude.{ℕ, ◌*◌, ◌≤◌, ◌<◌, ◌≡◌}
+use Rattle.figures.specs.RoofRules.{roof_refusal}
+use Rattle.figures.specs.SiteRules.{site_refusal}
+use Rattle.figures.specs.Spans.{slope_of}
 use Rattle.figures.specs.declared.national.National.{National}
 use Rattle.figures.specs.declared.site.Site.{Site}
-use Rattle.figures.specs.declared.roof.Slope.{Slope}
+use Rattle.figures.specs.declared.slopes.Slope.{Slope}
+use Rattle.figures.specs.declared.slopes.GuardedSlope.{GuardedSlope}
+use Rattle.figures.specs.declared.slopes.Spans.{Spans}
+use Rattle.figures.specs.declared.roof.Arch.{Arch}
+use Rattle.figures.specs.declared.roof.AbuttingRoof.{AbuttingRoof}
+use Rattle.figures.specs.declared.roof.ProjectionRoof.{ProjectionRoof}
 use Rattle.figures.specs.declared.roof.Shape.{Shape}
+use Rattle.figures.specs.declared.roof.Roof.{Roof}
 use Rattle.figures.specs.declared.roof.Shape.TheVariants.{Monopitch, Pitched, MultiSpan, Cylindrical, Abutting, Projection}
 
 pub record Within (a b x : ℕ) : Type 0 where
@@ -31,41 +39,45 @@ pub record SlopeIn (s : Slope) : Type 0 where
   pub pitch : s.pitch ≤ 800
   pub width : Within 1 100000 s.width
 
-pub record MonopitchIn (s : Slope) (g : ℕ) : Type 0 where
-  pub slope : SlopeIn s
-  pub guard : g ≤ 1
+-- a slope and its guard
+pub record GuardedIn (s : GuardedSlope) : Type 0 where
+  pub slope : SlopeIn s.slope
+  pub guard : s.guard ≤ 1
 
-pub record PitchedIn (s t : Slope) (g k : ℕ) : Type 0 where
-  pub left : SlopeIn s
-  pub right : SlopeIn t
-  pub left_guard : g ≤ 1
-  pub right_guard : k ≤ 1
+pub record PitchedIn (l r : GuardedSlope) : Type 0 where
+  pub left : GuardedIn l
+  pub right : GuardedIn r
 
-pub record MultiSpanIn (n : ℕ) (l : List ℕ) : Type 0 where
+pub record MultiSpanIn (n : ℕ) (l : Spans) : Type 0 where
   pub count : Within 2 16 n
   pub spans : (i : ℕ) → i < 2 * n → SlopeIn (slope_of l i)
 
-pub record CylindricalIn (r s : ℕ) : Type 0 where
-  pub rise : Within 1 15000 r
-  pub span : Within 2 30000 s
-  pub half : 2 * r ≤ s
+pub record CylindricalIn (arch : Arch) : Type 0 where
+  pub rise : Within 1 15000 arch.rise
+  pub span : Within 2 30000 arch.span
+  pub half : 2 * arch.rise ≤ arch.span
 
-pub record AbuttingIn (b1 b2 h : ℕ) (s : Slope) (g : ℕ) : Type 0 where
-  pub upper : Within 1 200000 b1
-  pub lower : Within 1 100000 b2
-  pub step : Within 1 30000 h
-  pub slope : SlopeIn s
-  pub guard : g ≤ 1
+pub record AbuttingIn (roof : AbuttingRoof) : Type 0 where
+  pub upper : Within 1 200000 roof.b1
+  pub lower : Within 1 100000 roof.b2
+  pub step : Within 1 30000 roof.h
+  pub slope : GuardedIn roof.slope
 
-pub record ProjectionIn (h a b : ℕ) : Type 0 where
-  pub height : Within 1 30000 h
-  pub left : Within 1 100000 a
-  pub right : Within 1 100000 b
+pub record ProjectionIn (p : ProjectionRoof) : Type 0 where
+  pub height : Within 1 30000 p.h
+  pub left : Within 1 100000 p.left
+  pub right : Within 1 100000 p.right
 
-abbrev pub ShapeIn : Shape → List ℕ → Type 0
-ShapeIn (Monopitch slope guard) spans = MonopitchIn slope guard
-ShapeIn (Pitched left right left_guard right_guard) spans = PitchedIn left right left_guard right_guard
+abbrev pub ShapeIn : Shape → Spans → Type 0
+ShapeIn (Monopitch slope) spans = GuardedIn slope
+ShapeIn (Pitched left right) spans = PitchedIn left right
 ShapeIn (MultiSpan count drifts) spans = MultiSpanIn count spans
-ShapeIn (Cylindrical rise span) spans = CylindricalIn rise span
-ShapeIn (Abutting b1 b2 h slope guard stepped) spans = AbuttingIn b1 b2 h slope guard
-ShapeIn (Projection h left right) spans = ProjectionIn h left right
+ShapeIn (Cylindrical arch) spans = CylindricalIn arch
+ShapeIn (Abutting lower) spans = AbuttingIn lower
+ShapeIn (Projection p) spans = ProjectionIn p
+
+-- figures that no rule on values refuses, under a set of national ones
+pub record FiguresIn (n : National) (s : Site) (r : Roof) : Type 0 where
+  pub national : NationalIn n
+  pub site : site_refusal s ≡ 0
+  pub roof : roof_refusal r ≡ 0

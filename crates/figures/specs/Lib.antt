@@ -1,9 +1,12 @@
 pub mod Bounds
+pub mod Kind
 pub mod National
 pub mod Ranges
+pub mod Refusal
 pub mod Refusals
 pub mod RoofRules
 pub mod Rules
 pub mod SiteRules
 pub mod Slopes
+pub mod Spans
 pub mod Store

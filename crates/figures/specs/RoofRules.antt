@@ -1,9 +1,15 @@
 -- The value rules on a roof, refusals 8, 9 and 10, in document 01's order: one definition a kind.
-use Rattle.std.specs.Prelude.{ℕ, zero, suc, ◌+◌, ◌-◌, ◌*◌, Bool, true, false, cond, not, ◌&&◌, ◌||◌, List, leb, ltb, eqb, get_or, replicate}
+use Rattle.std.specs.Prelude.{ℕ, zero, suc, ◌+◌, ◌-◌, ◌*◌, Bool, true, false, cond, not, ◌&&◌, ◌||◌, leb, ltb, eqb}
 use Rattle.figures.specs.Ranges.{within}
 use Rattle.figures.specs.Rules.{refused_if, first_of}
-use Rattle.figures.specs.declared.roof.Slope.{Slope}
-use Rattle.figures.specs.declared.roof.Valley.{Valley}
+use Rattle.figures.specs.Spans.{slope_of, valley_of}
+use Rattle.figures.specs.declared.slopes.Slope.{Slope}
+use Rattle.figures.specs.declared.slopes.GuardedSlope.{GuardedSlope}
+use Rattle.figures.specs.declared.slopes.Valley.{Valley}
+use Rattle.figures.specs.declared.slopes.Spans.{Spans}
+use Rattle.figures.specs.declared.roof.Arch.{Arch}
+use Rattle.figures.specs.declared.roof.AbuttingRoof.{AbuttingRoof}
+use Rattle.figures.specs.declared.roof.ProjectionRoof.{ProjectionRoof}
 use Rattle.figures.specs.declared.roof.LowerRoof.{LowerRoof}
 use Rattle.figures.specs.declared.roof.Shape.{Shape}
 use Rattle.figures.specs.declared.roof.Shape.TheVariants.{Monopitch, Pitched, MultiSpan, Cylindrical, Abutting, Projection}
@@ -11,44 +17,36 @@ use Rattle.figures.specs.declared.roof.Roof.{Roof}
 
 -- the kind of a shape, by the documents' number
 abbrev pub kind_of : Shape → ℕ
-kind_of (Monopitch slope guard) = 2
-kind_of (Pitched left right left_guard right_guard) = 3
+kind_of (Monopitch slope) = 2
+kind_of (Pitched left right) = 3
 kind_of (MultiSpan count drifts) = cond drifts 9 4
-kind_of (Cylindrical rise span) = 5
-kind_of (Abutting b1 b2 h slope guard stepped) = cond stepped 10 6
-kind_of (Projection h left right) = 7
+kind_of (Cylindrical arch) = 5
+kind_of (Abutting lower) = cond lower.stepped 10 6
+kind_of (Projection p) = 7
 
 -- the spans of a multi-span roof, 0 for any other
 abbrev pub span_count : Shape → ℕ
-span_count (Monopitch slope guard) = 0
-span_count (Pitched left right left_guard right_guard) = 0
+span_count (Monopitch slope) = 0
+span_count (Pitched left right) = 0
 span_count (MultiSpan count drifts) = count
-span_count (Cylindrical rise span) = 0
-span_count (Abutting b1 b2 h slope guard stepped) = 0
-span_count (Projection h left right) = 0
+span_count (Cylindrical arch) = 0
+span_count (Abutting lower) = 0
+span_count (Projection p) = 0
 
--- a roof of a shape, with the numbers of a multi-span roof's spans
-abbrev pub roof_of : Shape → List ℕ → Roof
+-- a roof of a shape, with the spans of a multi-span roof
+abbrev pub roof_of : Shape → Spans → Roof
 roof_of shape spans = record { shape = shape; spans = spans }
-
--- the numbers of a roof that is not multi-span: zeros, which no rule reads
-abbrev pub no_spans : List ℕ
-no_spans = replicate 94 0
-
--- slope i of a multi-span roof, from 0 at the left: two numbers each, its pitch and its width; span i has slopes 2i and 2i + 1
-unfoldable pub slope_of : List ℕ → ℕ → Slope
-slope_of spans i = record { pitch = get_or spans (2 * i) 0; width = get_or spans (2 * i + 1) 0 }
-
--- valley j of a multi-span roof, from 0 at the left: two numbers each behind the place of 32 slopes, its depth h and its length b3
-unfoldable pub valley_of : List ℕ → ℕ → Valley
-valley_of spans j = record { h = get_or spans (2 * j + 64) 0; b3 = get_or spans (2 * j + 65) 0 }
 
 -- pitch 0..800; widths are plan widths, 1..100,000
 abbrev pub slope_fields : Slope → Bool
 slope_fields s = leb s.pitch 800 && within 1 100000 s.width
 
+-- a slope's fields, and its guard 0 or 1
+abbrev pub guarded_fields : GuardedSlope → Bool
+guarded_fields s = slope_fields s.slope && leb s.guard 1
+
 -- each field of the first n slopes in its range
-unfoldable pub slopes_fields : List ℕ → ℕ → Bool
+unfoldable pub slopes_fields : Spans → ℕ → Bool
 slopes_fields spans zero = true
 slopes_fields spans (suc n) = slopes_fields spans n && slope_fields (slope_of spans n)
 
@@ -57,12 +55,12 @@ abbrev pub valley_fields : Valley → Bool
 valley_fields v = within 1 30000 v.h && within 1 100000 v.b3
 
 -- each field of the first n valleys in its range
-unfoldable pub valleys_fields : List ℕ → ℕ → Bool
+unfoldable pub valleys_fields : Spans → ℕ → Bool
 valleys_fields spans zero = true
 valleys_fields spans (suc n) = valleys_fields spans n && valley_fields (valley_of spans n)
 
 -- the fields of n spans: of their slopes, and in kind 9 of the valleys between them
-abbrev pub span_fields : Bool → List ℕ → ℕ → Bool
+abbrev pub span_fields : Bool → Spans → ℕ → Bool
 span_fields drifts spans n = slopes_fields spans (2 * n) && (not drifts || valleys_fields spans (n - 1))
 
 -- "at a valley of kind 4, either slope above 60.0° or both exactly 60.0°"
@@ -70,53 +68,52 @@ abbrev pub steep_valley : ℕ → ℕ → Bool
 steep_valley left right = ltb 600 left || ltb 600 right || (eqb left 600 && eqb right 600)
 
 -- the same at one of the first n valleys; valley i lies between slopes 2i + 1 and 2i + 2
-unfoldable pub steep_valleys : List ℕ → ℕ → Bool
+unfoldable pub steep_valleys : Spans → ℕ → Bool
 steep_valleys spans zero = false
 steep_valleys spans (suc n) = steep_valleys spans n || steep_valley (slope_of spans (2 * n + 1)).pitch (slope_of spans (2 * n + 2)).pitch
 
 -- "8 roof field outside its range": a guard is 0 or 1, h is 1..30,000
-abbrev pub monopitch_refusal : Slope → ℕ → ℕ
-monopitch_refusal slope guard = refused_if (not (slope_fields slope && leb guard 1)) 8
+abbrev pub monopitch_refusal : GuardedSlope → ℕ
+monopitch_refusal slope = refused_if (not (guarded_fields slope)) 8
 
-abbrev pub pitched_refusal : Slope → Slope → ℕ → ℕ → ℕ
-pitched_refusal left right left_guard right_guard =
-    refused_if (not (slope_fields left && slope_fields right && leb left_guard 1 && leb right_guard 1)) 8
+abbrev pub pitched_refusal : GuardedSlope → GuardedSlope → ℕ
+pitched_refusal left right = refused_if (not (guarded_fields left && guarded_fields right)) 8
 
 -- 2 to 16 spans; then 9. "Numbers 8 and 9 apply as to kind 4"
-abbrev pub multi_span_refusal : ℕ → Bool → List ℕ → ℕ
+abbrev pub multi_span_refusal : ℕ → Bool → Spans → ℕ
 multi_span_refusal count drifts spans =
     first_of (refused_if (not (within 2 16 count && span_fields drifts spans count)) 8)
     (refused_if (steep_valleys spans (count - 1)) 9)
 
 -- "10 twice the rise is more than the span"
-abbrev pub cylindrical_refusal : ℕ → ℕ → ℕ
-cylindrical_refusal rise span =
-    first_of (refused_if (not (within 1 15000 rise && within 2 30000 span)) 8)
-    (refused_if (ltb span (2 * rise)) 10)
+abbrev pub cylindrical_refusal : Arch → ℕ
+cylindrical_refusal arch =
+    first_of (refused_if (not (within 1 15000 arch.rise && within 2 30000 arch.span)) 8)
+    (refused_if (ltb arch.span (2 * arch.rise)) 10)
 
 -- kind 10, document 02, A7: "As figures it carries kind 6's fields, with b1 up to 200,000"
 abbrev pub widest_upper : Bool → ℕ
 widest_upper stepped = cond stepped 200000 100000
 
-abbrev pub abutting_refusal : ℕ → ℕ → ℕ → Slope → ℕ → Bool → ℕ
-abutting_refusal b1 b2 h slope guard stepped =
-    refused_if (not (within 1 (widest_upper stepped) b1 && within 1 100000 b2 && within 1 30000 h && slope_fields slope && leb guard 1)) 8
+abbrev pub abutting_refusal : AbuttingRoof → ℕ
+abutting_refusal lower =
+    refused_if (not (within 1 (widest_upper lower.stepped) lower.b1 && within 1 100000 lower.b2 && within 1 30000 lower.h && guarded_fields lower.slope)) 8
 
-abbrev pub projection_refusal : ℕ → ℕ → ℕ → ℕ
-projection_refusal h left right = refused_if (not (within 1 30000 h && within 1 100000 left && within 1 100000 right)) 8
+abbrev pub projection_refusal : ProjectionRoof → ℕ
+projection_refusal p = refused_if (not (within 1 30000 p.h && within 1 100000 p.left && within 1 100000 p.right)) 8
 
 -- an item of kind 10 by itself: b2, h and "its adjacent side (8: 0 left, 1 right)"
 abbrev pub lower_refusal : LowerRoof → ℕ
 lower_refusal lower = refused_if (not (within 1 100000 lower.b2 && within 1 30000 lower.h && leb lower.side 1)) 8
 
 -- the first rule that a roof breaks, 0 for none
-unfoldable pub shape_refusal : Shape → List ℕ → ℕ
-shape_refusal (Monopitch slope guard) spans = monopitch_refusal slope guard
-shape_refusal (Pitched left right left_guard right_guard) spans = pitched_refusal left right left_guard right_guard
+unfoldable pub shape_refusal : Shape → Spans → ℕ
+shape_refusal (Monopitch slope) spans = monopitch_refusal slope
+shape_refusal (Pitched left right) spans = pitched_refusal left right
 shape_refusal (MultiSpan count drifts) spans = multi_span_refusal count drifts spans
-shape_refusal (Cylindrical rise span) spans = cylindrical_refusal rise span
-shape_refusal (Abutting b1 b2 h slope guard stepped) spans = abutting_refusal b1 b2 h slope guard stepped
-shape_refusal (Projection h left right) spans = projection_refusal h left right
+shape_refusal (Cylindrical arch) spans = cylindrical_refusal arch
+shape_refusal (Abutting lower) spans = abutting_refusal lower
+shape_refusal (Projection p) spans = projection_refusal p
 
 -- "a roof likewise, here 8, 9 and 10": it is accepted (document 01, words of demand 3) where this is 0
 abbrev pub roof_refusal : Roof → ℕ

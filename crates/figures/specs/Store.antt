@@ -1,11 +1,9 @@
 -- The store of national sets that every call is lent, document 02, A8: its refusal, and the set in use on a job day.
-use Rattle.std.specs.Prelude.{ℕ, zero, suc, ◌+◌, ◌*◌, Bool, true, cond, ◌&&◌, List, ◌≡◌, leb, eqb, length, get_or}
+use Rattle.std.specs.Prelude.{ℕ, zero, suc, ◌+◌, ◌*◌, Bool, true, cond, ◌&&◌, List, ◌≡◌, leb, eqb, length, get_or, Option, Some, None}
 use Rattle.figures.specs.National.{recommended_figures, figures_sound}
 use Rattle.figures.specs.Ranges.{within}
 use Rattle.figures.specs.declared.national.National.{National}
 use Rattle.figures.specs.declared.national.NationalSet.{NationalSet}
-use Rattle.figures.specs.declared.site.JobDay.{JobDay}
-use Rattle.figures.specs.declared.site.JobDay.TheVariants.{Undated, Dated}
 
 -- "The store is 193 numbers of 32 bits: the count, then six a set in that order, low before high": the number of sets
 abbrev pub set_count : List ℕ → ℕ
@@ -55,38 +53,33 @@ store_fits numbers count = eqb numbers 193 && leb count 32
 unfoldable pub store_refusal : List ℕ → ℕ
 store_refusal store = cond (store_fits (length store) (set_count store) && sets_sound (set_at store) (set_count store)) 0 18
 
--- the set in use: none begun, or its figures
-pub data InUse : Type 0 where
-  none_begun : InUse
-  in_use : National → InUse
-
--- "The job uses the last set whose first day isn't after the job day", of the first n
-unfoldable pub last_begun : (ℕ → NationalSet) → ℕ → ℕ → InUse
-last_begun run day zero = none_begun
-last_begun run day (suc n) = cond (leb (run n).day day) (in_use (run n).figures) (last_begun run day n)
+-- "The job uses the last set whose first day isn't after the job day", of the first n: its figures, or none begun
+unfoldable pub last_begun : (ℕ → NationalSet) → ℕ → ℕ → Option National
+last_begun run day zero = None
+last_begun run day (suc n) = cond (leb (run n).day day) (Some (run n).figures) (last_begun run day n)
 
 -- "A site without a day uses the recommended figures, as now"
-unfoldable pub set_in_use : List ℕ → JobDay → InUse
-set_in_use store Undated = in_use recommended_figures
-set_in_use store (Dated day) = last_begun (set_at store) day (set_count store)
+unfoldable pub set_in_use : List ℕ → Option ℕ → Option National
+set_in_use store None = Some recommended_figures
+set_in_use store (Some day) = last_begun (set_at store) day (set_count store)
 
 -- "19 when a dated job has no set begun": its number, 0 where one has
-abbrev pub begun_number : InUse → ℕ
-begun_number none_begun = 19
-begun_number (in_use figures) = 0
+abbrev pub begun_number : Option National → ℕ
+begun_number None = 19
+begun_number (Some figures) = 0
 
-unfoldable pub day_refusal : List ℕ → JobDay → ℕ
+unfoldable pub day_refusal : List ℕ → Option ℕ → ℕ
 day_refusal store day = begun_number (set_in_use store day)
 
 -- the figures of the set in use; where none has begun the job is refused, and they are the recommended ones
-abbrev pub begun_figures : InUse → National
-begun_figures none_begun = recommended_figures
-begun_figures (in_use figures) = figures
+abbrev pub begun_figures : Option National → National
+begun_figures None = recommended_figures
+begun_figures (Some figures) = figures
 
-unfoldable pub figures_in_use : List ℕ → JobDay → National
+unfoldable pub figures_in_use : List ℕ → Option ℕ → National
 figures_in_use store day = begun_figures (set_in_use store day)
 
 -- two stores alike for a job of a day, in all that a call asks of a store
-pub record SameFor (a b : List ℕ) (day : JobDay) : Type 0 where
+pub record SameFor (a b : List ℕ) (day : Option ℕ) : Type 0 where
   pub refusal : store_refusal a ≡ store_refusal b
   pub set : set_in_use a day ≡ set_in_use b day

@@ -1,27 +1,40 @@
 // A roof: its shape, with the slopes and valleys of a multi-span roof beside it.
 ghost use Rattle.std.specs.Prelude.{◌≡◌};
+ghost use Rattle.figures.specs.Kind.{kind_number};
 ghost use Rattle.figures.specs.RoofRules.{kind_of, span_count};
 
-// How many numbers the spans of a multi-span roof take: two for each of 32 slopes, and two for each of 15 valleys.
-pub const SPAN_NUMBERS: usize = 94;
+use crate::kind::Kind;
+use crate::slopes::{GuardedSlope, Spans};
 
-// A slope: its pitch in tenths of a degree, and its plan width in mm.
-#[derive(Clone, Copy)]
-pub struct Slope {
-    pub pitch: u32,
-    pub width: u32,
+// A cylindrical roof: its rise and its span in mm.
+#[derive(Clone, Copy, Debug, PartialEq, Eq)]
+pub struct Arch {
+    pub rise: u32,
+    pub span: u32,
 }
 
-// A valley: its depth and its length, b3 of Annex B, in mm.
-#[derive(Clone, Copy)]
-pub struct Valley {
+// A lower flat roof at a taller one: the width b1 of that, its own width b2 and the step h in mm, and the slope above the step. It is
+// stepped where its upper figures come from another item of its sheet.
+#[derive(Clone, Copy, Debug, PartialEq, Eq)]
+pub struct AbuttingRoof {
+    pub b1: u32,
+    pub b2: u32,
     pub h: u32,
-    pub b3: u32,
+    pub slope: GuardedSlope,
+    pub stepped: bool,
+}
+
+// A projection on a flat roof: its height, and the roof's widths at its left and its right in mm.
+#[derive(Clone, Copy, Debug, PartialEq, Eq)]
+pub struct ProjectionRoof {
+    pub h: u32,
+    pub left: u32,
+    pub right: u32,
 }
 
 // A lower roof as its item has it: its width b2 and its step h, the index of the upper item that it stands at, and the side
-// of that item that is adjacent, 0 left and 1 right.
-#[derive(Clone, Copy)]
+// of that item that is adjacent, 0 left and 1 right; 8 refuses other sides.
+#[derive(Clone, Copy, Debug, PartialEq, Eq)]
 pub struct LowerRoof {
     pub b2: u32,
     pub h: u32,
@@ -29,93 +42,54 @@ pub struct LowerRoof {
     pub side: u8,
 }
 
-// The shape of a roof, kinds 2 to 7, 9 and 10. Lengths in mm; a guard is 0 or 1. A multi-span roof with drifts in its
-// valleys by Annex B is of kind 9, one without them of kind 4. A lower roof whose upper figures come from another item of
-// its sheet is stepped, of kind 10; one that has them in its own item is of kind 6.
-#[derive(Clone, Copy)]
+// The shape of a roof. A multi-span roof has drifts in its valleys by Annex B, or none.
+#[derive(Clone, Copy, Debug, PartialEq, Eq)]
 pub enum Shape {
-    Monopitch {
-        slope: Slope,
-        guard: u8,
-    },
+    Monopitch(GuardedSlope),
     Pitched {
-        left: Slope,
-        right: Slope,
-        left_guard: u8,
-        right_guard: u8,
+        left: GuardedSlope,
+        right: GuardedSlope,
     },
     MultiSpan {
         count: u8,
         drifts: bool,
     },
-    Cylindrical {
-        rise: u32,
-        span: u32,
-    },
-    Abutting {
-        b1: u32,
-        b2: u32,
-        h: u32,
-        slope: Slope,
-        guard: u8,
-        stepped: bool,
-    },
-    Projection {
-        h: u32,
-        left: u32,
-        right: u32,
-    },
+    Cylindrical(Arch),
+    Abutting(AbuttingRoof),
+    Projection(ProjectionRoof),
 }
 
-// A roof. The slopes of a multi-span roof stand from left to right, two numbers each: pitch and width. Behind the place of
-// 32 slopes stand its valleys, two numbers each: depth and length. What a roof hasn't are zeros.
-#[derive(Clone, Copy)]
+// A roof. Other shapes than multi-span have no slopes and no valleys in their spans: zeros, which no rule reads.
+#[derive(Clone, Copy, Debug, PartialEq, Eq)]
 pub struct Roof {
     pub shape: Shape,
-    pub spans: [u32; SPAN_NUMBERS],
+    pub spans: Spans,
 }
 
-// The kind of a shape, by the documents' number.
-pub fn kind_of(shape: Shape) -> u8
-    ensures { result ≡ kind_of shape }
-{
-    match shape {
-        Shape::Monopitch { .. } => 2,
-        Shape::Pitched { .. } => 3,
-        Shape::MultiSpan { count: _, drifts } => {
-            if drifts {
-                return 9;
-            }
-            4
-        },
-        Shape::Cylindrical { .. } => 5,
-        Shape::Abutting {
-            b1: _,
-            b2: _,
-            h: _,
-            slope: _,
-            guard: _,
-            stepped,
-        } => {
-            if stepped {
-                return 10;
-            }
-            6
-        },
-        Shape::Projection { .. } => 7,
+impl Shape {
+    // The kind of the roof's item.
+    pub fn kind(self) -> Kind
+        ensures { kind_number result ≡ kind_of self }
+    {
+        match self {
+            Shape::Monopitch(_) => Kind::Monopitch,
+            Shape::Pitched { .. } => Kind::Pitched,
+            Shape::MultiSpan { drifts: false, .. } => Kind::MultiSpan,
+            Shape::MultiSpan { drifts: true, .. } => Kind::DriftedMultiSpan,
+            Shape::Cylindrical(_) => Kind::Cylindrical,
+            Shape::Abutting(AbuttingRoof { stepped: false, .. }) => Kind::Abutting,
+            Shape::Abutting(AbuttingRoof { stepped: true, .. }) => Kind::Stepped,
+            Shape::Projection(_) => Kind::Projection,
+        }
     }
-}
 
-// How many spans a multi-span roof has, 0 for any other.
-pub fn span_count(shape: Shape) -> u8
-    ensures { result ≡ span_count shape }
-{
-    match shape {
-        Shape::Monopitch { .. } => 0,
-        Shape::Pitched { .. } => 0,
-        Shape::MultiSpan { count, drifts: _ } => count,
-        Shape::Cylindrical { .. } => 0,
-        Shape::Abutting { .. } => 0,
-        Shape::Projection { .. } => 0,
+    // How many spans a multi-span roof has; any other has none, 0.
+    pub fn span_count(self) -> u8
+        ensures { result ≡ span_count self }
+    {
+        match self {
+            Shape::MultiSpan { count, .. } => count,
+            _ => 0,
+        }
     }
 }

@@ -1,11 +1,11 @@
 -- The rows of a roof's forces: which kinds have none, and how long they can be.
 use Prim.Native.Nat.{ℕ, ◌≤◌}
 use mathlib.Core.Bool.{false}
-use mathlib.Core.List.{List, [], ◌∷◌}
+use mathlib.Core.List.{[], ◌∷◌}
 use mathlib.Core.Path.{◌≡◌}
 use lib.ListN.{length, length-append}
 use native.Mathlib.Omega.{arith}
-use Rattle.figures.specs.RoofRules.{kind_of, shape_refusal}
+use Rattle.figures.specs.RoofRules.{kind_of}
 use Rattle.figures.specs.declared.site.Site.{Site}
 use Rattle.figures.specs.declared.roof.Shape.{Shape}
 use Rattle.force_rows.specs.Rows.{force_row, slope_rows, force_rows}
@@ -13,16 +13,15 @@ use Rattle.standard.specs.Codes.{forces_in}
 use Rattle.standard.specs.Forces as forces
 use Rattle.figures.specs.Slopes.{slope_at}
 use Rattle.standard.specs.Forces.{overhang_at, guard_at}
-use Rattle.figures.proofs.Sides.{no_sides}
+use Rattle.figures.proofs.Sides.{no_slopes}
 use Rattle.text.specs.Text.{row}
 use Rattle.text.proofs.Writing.{short}
 
 -- a kind without local forces has no rows of them
 pub no_forces :
-    (s : Site) (shape : Shape) (item : ℕ) (spans : List ℕ) → shape_refusal shape spans ≡ 0 → forces_in (kind_of shape) ≡ false
-    → [] ≡ force_rows s shape item
+    (s : Site) (shape : Shape) (item : ℕ) → forces_in (kind_of shape) ≡ false → [] ≡ force_rows s shape item
 unfolding force_rows slope_rows overhang_at guard_at
-no_forces s shape item spans h e = rw (no_sides shape spans 1 h e, no_sides shape spans 2 h e)
+no_forces s shape item e = rw (no_slopes shape 1 e, no_slopes shape 2 e)
 
 four_short : (a b c d : ℕ) → length (row (a ∷ b ∷ c ∷ d ∷ [])) ≤ 44
 four_short a b c d = simp length-append (omega (arith, short a, short b, short c, short d))

@@ -88,7 +88,7 @@ load_rises region zone a b h p =
 
 -- the load by a row in its form
 pub load_by_lem :
-    (region zone altitude base : ℕ) (r : Row) (f : Form) → r ≡ row_of region → r.form ≡ f → base ≡ zone_load r zone
-    → rounded_up 1 (by_form f base r.divisor altitude) ≡ ground_load region zone altitude
-unfolding ground_load expression
-load_by_lem region zone altitude base r f e g h = rw (sym g, h, e)
+    (zone altitude base : ℕ) (r : Row) (f : Form) → r.form ≡ f → base ≡ zone_load r zone
+    → rounded_up 1 (by_form f base r.divisor altitude) ≡ rounded_up 1 (expression r zone altitude)
+unfolding expression
+load_by_lem zone altitude base r f g h = rw (sym g, h)

@@ -2,7 +2,7 @@
 ghost use Rattle.std.specs.Prelude.{◌≡◌, ◌≤◌};
 ghost use Rattle.figures.specs.Bounds.{Within};
 ghost use Rattle.rounding.specs.Up.{rounded_up};
-ghost use Rattle.ground_loads.specs.Map.{RowIn, MapIn, zone_load, by_form, ground_load};
+ghost use Rattle.ground_loads.specs.Map.{RowIn, MapIn, zone_load, by_form, expression, ground_load};
 ghost use Rattle.ground_loads.specs.declared.table.Form.TheVariants.{Square, Linear};
 
 use crate::table::{Form, Row, row_of};
@@ -33,16 +33,23 @@ fn linear_load(base: u64, divisor: u64, altitude: u64) -> u64
     ceil_div(base * divisor + 1_000 * altitude, divisor)
 }
 
+// The load of a zone at an altitude by a row.
+fn row_load(row: Row, zone: u64, altitude: u64) -> u64
+    requires { RowIn row × Within 1 5 zone × (altitude ≤ 1500) }
+    ensures { result ≡ rounded_up 1 (expression row zone altitude) }
+{
+    let base = zone_load(row, zone);
+    match row.form {
+        Form::Square => square_load(base, row.divisor, altitude),
+        Form::Linear => linear_load(base, row.divisor, altitude),
+    }
+}
+
 // The load of a region, a zone and an altitude that the table has.
+#[tactic(auto, unfolding(crate::specs::Map::ground_load))]
 pub fn table_load(region: u8, zone: u8, altitude: u16) -> u64
     requires { MapIn region zone altitude }
     ensures { result ≡ ground_load region zone altitude }
 {
-    let row = row_of(region);
-    let base = zone_load(row, zone as u64);
-    let form = row.form;
-    match form {
-        Form::Square => square_load(base, row.divisor, altitude as u64),
-        Form::Linear => linear_load(base, row.divisor, altitude as u64),
-    }
+    row_load(row_of(region), u64::from(zone), u64::from(altitude))
 }

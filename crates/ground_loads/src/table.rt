@@ -1,16 +1,17 @@
 // Table C.1 of EN 1991-1-3: a row of coefficients for each climatic region.
 ghost use Rattle.std.specs.Prelude.{◌≡◌, ◌≤◌};
-ghost use Rattle.ground_loads.specs.Map.{row_of};
+ghost use Rattle.figures.specs.Bounds.{Within};
+ghost use Rattle.ground_loads.specs.Map.{RowIn, row_of};
 
 // How the load rises with the altitude A: the zone's load times 1 + (A/divisor)², or the zone's load and 1,000 A/divisor.
-#[derive(Clone, Copy)]
+#[derive(Clone, Copy, Debug, PartialEq, Eq)]
 pub enum Form {
     Square,
     Linear,
 }
 
 // A row: zone Z has factor × Z + plus − minus, in N/m²; the altitude is taken over the divisor, in the row's form.
-#[derive(Clone, Copy)]
+#[derive(Clone, Copy, Debug, PartialEq, Eq)]
 pub struct Row {
     pub factor: u64,
     pub plus: u64,
@@ -19,6 +20,7 @@ pub struct Row {
     pub form: Form,
 }
 
+// By a region's number: the requirements name a table of eight rows.
 const ROWS: [Row; 8] = [
     // Alpine Region
     Row {
@@ -87,9 +89,10 @@ const ROWS: [Row; 8] = [
 ];
 
 // The row of a region.
+#[tactic(auto, unfolding(crate::specs::Map::row_of, crate::specs::Map::rows), using(crate::proofs::Rows::row_in))]
 pub fn row_of(region: u8) -> Row
-    requires { (1 ≤ region) × (region ≤ 8) }
-    ensures { result ≡ row_of region }
+    requires { Within 1 8 region }
+    ensures { (result ≡ row_of region) × RowIn result }
 {
-    ROWS[region as usize - 1]
+    ROWS[usize::from(region) - 1]
 }

@@ -1,82 +1,89 @@
-// What the calls on an item of a sheet answer, as numbers of 32 bits, by what was found there. No rule that the finding passed is
-// tested again.
+// What the calls on an item of a sheet answer, by what was found there. No rule that the finding passed is tested again.
 #![tactic(auto)]
 
-ghost use Rattle.std.specs.Prelude.{◌≡◌, length};
-ghost use Rattle.sheet_figures.specs.Find.{FoundAccepted};
-ghost use Rattle.item_answers.specs.Calls.{make_code, slice_after, load_code, overhang_code, guard_code};
+ghost use Rattle.std.specs.Prelude.{◌≡◌, ◌≤◌, length, IfOk};
+ghost use Rattle.pairs.specs.Pairs.{answer_means};
+ghost use Rattle.sheet_figures.specs.Find.{found_means};
+ghost use Rattle.item_answers.specs.Calls.{make_by, slice_after, load_by, overhang_by, guard_by};
 
-use answer_codes::{NONE, refusal};
-use code_rules::NO_ARRANGEMENT;
+use figures::Refusal;
+use local_forces::{guard_force_at as guard_force, overhang_at as overhang};
+use pairs::Refused;
 use roof_arrangements::make_in;
 use roof_readings::load_in;
-use sheet_figures::{Finding, Found};
+use sheet_figures::Found;
+
+// The refusal of the site's item, which has no arrangement.
+fn no_arrangement(item: usize) -> Refused
+    ensures refusal { result.refusal ≡ Refusal.NoArrangement }
+    ensures item { result.item ≡ item }
+{
+    Refused {
+        refusal: Refusal::NoArrangement,
+        item,
+    }
+}
 
 // The count of segments of an arrangement, or a refusal.
-pub fn make_at(found: Found, item: usize, code: u8, out: &mut [u32]) -> u32
-    requires { FoundAccepted found }
-    ensures value { result ≡ make_code found item code (length out.old) }
-    ensures out_after { out.new ≡ slice_after found code out.old }
+pub fn make_at(
+    found: Result<Found, Refused>,
+    item: usize,
+    code: u8,
+    out: &mut [u32],
+) -> Result<usize, Refused>
+    ensures answer { answer_means result ≡ make_by (found_means found) item code (length out.old) }
+    ensures written { out.new ≡ slice_after (found_means found) code out.old }
+    ensures few { IfOk result (λ n. n ≤ 32) }
 {
-    let finding = found.finding;
-    match finding {
-        Finding::RoofFound => {
-            let answer = make_in(found.national, found.site, found.roof, code, out);
-            answer_codes::made(answer, item)
+    match found? {
+        Found::AtRoof(figures) => {
+            make_in(&figures, code, out).map_err(|refusal| Refused { refusal, item })
         }
-        Finding::NoRoof => refusal(NO_ARRANGEMENT, item),
-        Finding::Refused(number, at) => refusal(number, at),
+        Found::AtSite { .. } => Err(no_arrangement(item)),
     }
 }
 
 // The load at a station, or a refusal.
-pub fn load_at(found: Found, item: usize, code: u8, station: u32) -> u32
-    requires { FoundAccepted found }
-    ensures { result ≡ load_code found item code station }
+pub fn load_at(
+    found: Result<Found, Refused>,
+    item: usize,
+    code: u8,
+    station: u32,
+) -> Result<u32, Refused>
+    ensures { answer_means result ≡ load_by (found_means found) item code station }
 {
-    let finding = found.finding;
-    match finding {
-        Finding::RoofFound => {
-            let answer = load_in(found.national, found.site, found.roof, code, station);
-            answer_codes::load(answer, item)
+    match found? {
+        Found::AtRoof(figures) => {
+            load_in(&figures, code, station).map_err(|refusal| Refused { refusal, item })
         }
-        Finding::NoRoof => refusal(NO_ARRANGEMENT, item),
-        Finding::Refused(number, at) => refusal(number, at),
+        Found::AtSite { .. } => Err(no_arrangement(item)),
     }
 }
 
-// The overhang at a slope, none, or a refusal.
-pub fn overhang_at(found: Found, item: usize, slope: u8) -> u32
-    requires { FoundAccepted found }
-    ensures { result ≡ overhang_code found item slope }
+// The overhang at a slope, none, or a refusal. The site has no forces.
+pub fn overhang_at(
+    found: Result<Found, Refused>,
+    item: usize,
+    slope: u8,
+) -> Result<Option<u32>, Refused>
+    ensures { answer_means result ≡ overhang_by (found_means found) item slope }
 {
-    let finding = found.finding;
-    match finding {
-        Finding::RoofFound => {
-            let roof = found.roof;
-            let shape = roof.shape;
-            let answer = local_forces::overhang_at(found.site, shape, slope);
-            answer_codes::force(answer, item)
-        }
-        Finding::NoRoof => NONE,
-        Finding::Refused(number, at) => refusal(number, at),
+    match found? {
+        Found::AtRoof(figures) => Ok(overhang(figures.sited(), slope)),
+        Found::AtSite { .. } => Ok(None),
     }
 }
 
-// The force at the guard of a slope, none, or a refusal.
-pub fn guard_force_at(found: Found, item: usize, slope: u8) -> u32
-    requires { FoundAccepted found }
-    ensures { result ≡ guard_code found item slope }
+// The force at the guard of a slope, none, or a refusal. The site has no forces.
+pub fn guard_force_at(
+    found: Result<Found, Refused>,
+    item: usize,
+    slope: u8,
+) -> Result<Option<u32>, Refused>
+    ensures { answer_means result ≡ guard_by (found_means found) item slope }
 {
-    let finding = found.finding;
-    match finding {
-        Finding::RoofFound => {
-            let roof = found.roof;
-            let shape = roof.shape;
-            let answer = local_forces::guard_force_at(found.site, shape, slope);
-            answer_codes::force(answer, item)
-        }
-        Finding::NoRoof => NONE,
-        Finding::Refused(number, at) => refusal(number, at),
+    match found? {
+        Found::AtRoof(figures) => Ok(guard_force(figures.sited(), slope)),
+        Found::AtSite { .. } => Ok(None),
     }
 }

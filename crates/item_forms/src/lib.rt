@@ -1,49 +1,30 @@
-// The forms that items of every kind share: what an item says, its refusal by number, and a slope among its bytes.
+// The forms that items of every kind share: what an item says, its length, and a slope among its bytes.
 #![tactic(auto)]
 
-ghost use Rattle.std.specs.Prelude.{◌≡◌, ◌+◌, ◌≤◌, length};
-ghost use Rattle.item_forms.specs.Forms.{item_alone, malformed, slope_at};
+ghost use Rattle.std.specs.Prelude.{◌≡◌, ◌≢◌, ◌+◌, ◌≤◌, MatchResult, length};
+ghost use Rattle.item_forms.specs.Forms.{slope_at};
 
-use figures::{LowerRoof, SPAN_NUMBERS, Shape, SiteData, Slope};
-use little_endian::{u16_wide_at, u32_at};
+use figures::{LowerRoof, Refusal, Shape, SiteData, Slope};
+use little_endian::{u16_at, u32_at};
 
-// Refusals of an item's form, by document 01's numbers.
-pub const UNKNOWN_KIND: u8 = 3;
-
-pub const ITEM_LENGTH: u8 = 4;
-
-// What an item's bytes say: a site, the shape of a roof, a lower roof whose shape an upper item completes, or the number
-// of their refusal.
-#[derive(Clone, Copy)]
+// What an item's bytes say: a site, a roof by its shape, or a lower roof whose shape an upper item completes. The spans of a multi-span
+// roof stay in its bytes, and are read from there where they are needed.
+#[derive(Clone, Copy, Debug, PartialEq, Eq)]
 pub enum Item {
     SiteItem(SiteData),
     RoofItem(Shape),
     LowerItem(LowerRoof),
-    Malformed(u8),
 }
 
-// An item with the spans of a multi-span roof beside it, as a roof has them; any other item has zeros there.
-#[derive(Clone, Copy)]
-pub struct Decoded {
-    pub item: Item,
-    pub spans: [u32; SPAN_NUMBERS],
-}
-
-// An item that has no spans beside it.
-pub fn alone(item: Item) -> Decoded
-    ensures { result ≡ item_alone item }
+// An item that isn't of its kind's length is refused.
+pub fn check_length(p: &[u8], n: usize) -> Result<(), Refusal>
+    ensures { MatchResult result (λ _. length p.now ≡ n) (λ e. (e ≡ Refusal.ItemLength) × (length p.now ≢ n)) }
 {
-    Decoded {
-        item: item,
-        spans: [0; SPAN_NUMBERS],
+    if p.len() == n {
+        Ok(())
+    } else {
+        Err(Refusal::ItemLength)
     }
-}
-
-// An item whose form is refused.
-pub fn refused(number: u8) -> Decoded
-    ensures { result ≡ malformed number }
-{
-    alone(Item::Malformed(number))
 }
 
 // A slope whose pitch and width begin at two bytes.
@@ -52,7 +33,7 @@ pub fn slope_at(p: &[u8], pitch: usize, width: usize) -> Slope
     ensures { result ≡ slope_at p.now pitch width }
 {
     Slope {
-        pitch: u16_wide_at(p, pitch),
+        pitch: u32::from(u16_at(p, pitch)),
         width: u32_at(p, width),
     }
 }

@@ -2,79 +2,57 @@
 #![tactic(auto)]
 
 ghost use Rattle.std.specs.Prelude.{◌≡◌};
-ghost use Rattle.figures.specs.Store.{store_refusal};
-ghost use Rattle.items.specs.Items.{content};
-ghost use Rattle.item_rules.specs.Rules.{job_refusal, rule_of, LaterRule, misplaced};
+ghost use Rattle.figures.specs.Refusal.{number_in};
+ghost use Rattle.item_rules.specs.Rules.{job_refusal, rule_of, LaterRule};
 
-use figures::{SiteData, first};
-use items::{Item, decode, is_lower};
-use lower_rules::lower_refusal;
-use map_sites::site_data_refusal;
-use roof_items::lower_at;
-use roof_rules::shape_refusal;
-use sets_in_use::day_refusal;
+use figures::{Refusal, SiteData};
+use items::{Item, decode, spans_in};
+use lower_rules::check_lower;
+use map_sites::site_from;
+use national_sets::Store;
+use roof_rules::check_shape;
+use sets_in_use::check_day;
 
-// The refusal of a place, by document 01's number.
-const SITE_PLACE: u8 = 5;
-
-// The number of an item that may not stand where it does: its own refusal, or that of its place.
-fn misplaced_number(item: Item) -> u8
-    ensures { result ≡ misplaced item }
+// The first rule that a site breaks: its own values, then its day.
+#[tactic(auto, unfolding(crate::specs::Rules::job_refusal, figures::specs::Rules::first_of))]
+fn check_job(store: Store, fields: SiteData) -> Result<(), Refusal>
+    ensures { number_in result ≡ job_refusal store.entry.numbers.now fields }
 {
-    match item {
-        Item::Malformed(number) => number,
-        Item::SiteItem(_) => SITE_PLACE,
-        Item::RoofItem(_) => SITE_PLACE,
-        Item::LowerItem(_) => SITE_PLACE,
-    }
-}
-
-// The first rule that a site breaks: its own values, then its day in an accepted store.
-fn job_refusal(store: &[u32], fields: SiteData) -> u8
-    requires { store_refusal store.now ≡ 0 }
-    ensures { result ≡ job_refusal store.now fields }
-{
-    let day = fields.day;
-    let own = site_data_refusal(fields);
-    let dated = day_refusal(store, day);
-    first(own, dated)
+    site_from(fields)?;
+    check_day(store, fields.day)
 }
 
 // The first rule that the first item breaks.
-fn first_number(store: &[u32], p: &[u8]) -> u8
-    requires { store_refusal store.now ≡ 0 }
-    ensures { result ≡ rule_of store.now 0 (content p.now) }
+fn check_first(store: Store, p: &[u8]) -> Result<(), Refusal>
+    ensures { number_in result ≡ rule_of store.entry.numbers.now 0 p.now }
 {
-    let decoded = decode(p);
-    let item = decoded.item;
+    let item = decode(p)?;
     let Item::SiteItem(fields) = item else {
-        return misplaced_number(item);
+        return Err(Refusal::SitePlace);
     };
-    job_refusal(store, fields)
+    check_job(store, fields)
 }
 
 // The first rule that a later item breaks.
-fn later_number(p: &[u8]) -> u8
-    ensures { LaterRule result (content p.now) }
+fn check_later(p: &[u8]) -> Result<(), Refusal>
+    ensures { LaterRule (number_in result) p.now }
 {
-    if is_lower(p) {
-        return lower_refusal(lower_at(p));
+    let item = decode(p)?;
+    if let Item::LowerItem(lower) = item {
+        return check_lower(lower);
     }
-    let decoded = decode(p);
-    let item = decoded.item;
     let Item::RoofItem(shape) = item else {
-        return misplaced_number(item);
+        return Err(Refusal::SitePlace);
     };
-    shape_refusal(shape, &decoded.spans)
+    check_shape(shape, &spans_in(p, shape))
 }
 
-// The first rule that the item at an index breaks, 0 where it breaks none.
-pub fn item_number(store: &[u32], index: usize, p: &[u8]) -> u8
-    requires { store_refusal store.now ≡ 0 }
-    ensures { result ≡ rule_of store.now index (content p.now) }
+// The first rule that the item at an index breaks.
+pub fn check_item(store: Store, index: usize, p: &[u8]) -> Result<(), Refusal>
+    ensures { number_in result ≡ rule_of store.entry.numbers.now index p.now }
 {
     if index == 0 {
-        return first_number(store, p);
+        return check_first(store, p);
     }
-    later_number(p)
+    check_later(p)
 }

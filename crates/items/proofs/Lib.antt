@@ -1,3 +1,2 @@
-pub mod Forms
 pub mod Lowers
 pub mod Numbered

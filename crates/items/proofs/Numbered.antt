@@ -1,60 +1,69 @@
--- What an item's bytes say, by its form: a site, a roof, a lower roof of kind 10 and 11 bytes, or a refusal, whose number is 3 or 4.
-use Prim.Native.Nat.{ℕ, ◌<◌}
+-- What holds of every kind's item holds of what any bytes say: the law by cases over the kinds.
+use Prim.Native.Nat.{ℕ, ◌+◌, ◌-◌, ◌*◌}
 use mathlib.Core.Bool.{Bool, true, false, cond}
 use mathlib.Core.List.{List}
-use mathlib.Core.Path.{◌≡◌, refl}
-use borrow.Author.Tests.{eqb-true}
+use mathlib.Core.Path.{◌≡◌, refl, subst}
+use borrow.Author.Tests.{eqb-true, eqb-false}
 use lib.Dec.{eqb}
 use lib.ListN.{length}
 use native.Mathlib.Omega.{arith}
+use Rattle.std.specs.Prelude.{Result, Ok, Err}
+use Rattle.figures.specs.declared.refusal.Refusal.{Refusal}
+use Rattle.figures.specs.declared.refusal.Refusal.TheVariants.{UnknownKind, ItemLength}
 use Rattle.figures.specs.declared.roof.LowerRoof.{LowerRoof}
 use Rattle.figures.specs.declared.roof.Shape.{Shape}
 use Rattle.figures.specs.declared.site.SiteData.{SiteData}
 use Rattle.little_endian.specs.Numbers.{byte_at}
-use Rattle.item_forms.specs.Forms.{malformed, sized}
 use Rattle.item_forms.specs.declared.Item.{Item}
-use Rattle.item_forms.specs.declared.Item.TheVariants.{SiteItem, RoofItem, LowerItem, Malformed}
-use Rattle.item_forms.specs.declared.Decoded.{Decoded}
-use Rattle.site_items.specs.SiteItems.{site_length, site_sized, site_item, map_site_item}
+use Rattle.item_forms.specs.declared.Item.TheVariants.{SiteItem, RoofItem, LowerItem}
+use Rattle.site_items.specs.SiteItems.{site_item, map_site_item}
 use Rattle.roof_items.specs.RoofItems.{monopitch_item, pitched_item, cylindrical_item, abutting_item, projection_item, lower_item}
-use Rattle.span_items.specs.SpanItems.{multi_span_item, drifted_item}
+use Rattle.span_items.specs.SpanItems.{SpansThere, multi_span_item, drifted_item}
 use Rattle.items.specs.Items.{by_kind, content}
 
-module _ (P : Item → Type 0) (site : (fields : SiteData) → P (SiteItem fields)) (roof : (shape : Shape) → P (RoofItem shape))
-    (bad : (number : ℕ) → 0 < number → P (Malformed number)) where
-  either : (b : Bool) (d e : Decoded) → (b ≡ true → P d.item) → P e.item → P (cond b d e).item
-  either true d e p q = p refl
-  either false d e p q = q
+-- a refusal, a site, a roof whose spans are there, and a lower roof, which has kind 10 and 11 bytes
+module _ (P : Result Item Refusal → Type 0) (p : List ℕ) (refused : (e : Refusal) → P (Err e)) (site : (fields : SiteData) → P (Ok (SiteItem fields)))
+    (roof : (shape : Shape) → SpansThere shape p → P (Ok (RoofItem shape)))
+    (lower : (fields : LowerRoof) → byte_at p 0 ≡ 10 → length p ≡ 11 → P (Ok (LowerItem fields))) where
+  either : (b : Bool) (d e : Result Item Refusal) → (b ≡ true → P d) → (b ≡ false → P e) → P (cond b d e)
+  either true d e h k = h refl
+  either false d e h k = k refl
 
-  of_size : (n : ℕ) (p : List ℕ) (d : Decoded) → (length p ≡ n → P d.item) → P (sized n p d).item
-  unfolding sized
-  of_size n p d h = either (eqb (length p) n) d (malformed 4) (λ e. h (eqb-true (length p) n e)) (bad 4 (omega arith))
+  sized : (b : Bool) (item : Item) → (b ≡ true → P (Ok item)) → P (cond b (Ok item) (Err ItemLength))
+  sized b item h = either b _ _ h (λ f. refused ItemLength)
 
-  by_kind_lem : (k : ℕ) (p : List ℕ) → ((lower : LowerRoof) → k ≡ 10 → length p ≡ 11 → P (LowerItem lower)) → P (by_kind k p).item
-  unfolding by_kind site_item monopitch_item pitched_item multi_span_item cylindrical_item abutting_item projection_item map_site_item drifted_item lower_item site_sized
-  by_kind_lem k p lower =
-      either (eqb k 1) _ _ (λ e. either (site_length 14 (length p)) _ _ (λ l. site _) (bad 4 (omega arith)))
-      (either (eqb k 2) _ _ (λ e. of_size _ p _ (λ l. roof _))
-      (either (eqb k 3) _ _ (λ e. of_size _ p _ (λ l. roof _))
-      (either (eqb k 4) _ _ (λ e. of_size _ p _ (λ l. roof _))
-      (either (eqb k 5) _ _ (λ e. of_size _ p _ (λ l. roof _))
-      (either (eqb k 6) _ _ (λ e. of_size _ p _ (λ l. roof _))
-      (either (eqb k 7) _ _ (λ e. of_size _ p _ (λ l. roof _))
-      (either (eqb k 8) _ _ (λ e. either (site_length 12 (length p)) _ _ (λ l. site _) (bad 4 (omega arith)))
-      (either (eqb k 9) _ _ (λ e. either (eqb (byte_at p 1) 0) _ _ (λ z. bad 4 (omega arith)) (of_size _ p _ (λ l. roof _)))
-      (either (eqb k 10) _ _ (λ e. of_size _ p _ (λ l. lower _ (eqb-true k 10 e) l)) (bad 3 (omega arith)))))))))))
+  pub by_content : P (content p)
+  unfolding content by_kind site_item monopitch_item pitched_item multi_span_item cylindrical_item abutting_item projection_item map_site_item drifted_item lower_item
+  by_content =
+      let k = byte_at p 0 in
+      either (eqb (length p) 0) _ _ (λ t. refused ItemLength)
+      (λ f. either (eqb k 1) _ _ (λ t. sized _ _ (λ l. site _))
+      (λ f. either (eqb k 2) _ _ (λ t. sized _ _ (λ l. roof _ tt))
+      (λ f. either (eqb k 3) _ _ (λ t. sized _ _ (λ l. roof _ tt))
+      (λ f. either (eqb k 4) _ _ (λ t. sized _ _ (λ l. roof _ (omega (arith, eqb-true (length p) (2 + 12 * byte_at p 1) l))))
+      (λ f. either (eqb k 5) _ _ (λ t. sized _ _ (λ l. roof _ tt))
+      (λ f. either (eqb k 6) _ _ (λ t. sized _ _ (λ l. roof _ tt))
+      (λ f. either (eqb k 7) _ _ (λ t. sized _ _ (λ l. roof _ tt))
+      (λ f. either (eqb k 8) _ _ (λ t. sized _ _ (λ l. site _))
+      (λ f. either (eqb k 9) _ _
+      (λ t. either (eqb (byte_at p 1) 0) _ _ (λ z. refused ItemLength)
+      (λ z. sized _ _ (λ l. roof _ (omega (arith, eqb-false (byte_at p 1) 0 z), omega (arith, eqb-true (length p) (20 * byte_at p 1 - 6) l)))))
+      (λ f. either (eqb k 10) _ _ (λ t. sized _ _ (λ l. lower _ (eqb-true k 10 t) (eqb-true (length p) 11 l))) (λ f. refused UnknownKind)))))))))))
 
-  -- what holds of every form holds of what an item's bytes say
-  pub by_content : (p : List ℕ) → ((lower : LowerRoof) → byte_at p 0 ≡ 10 → length p ≡ 11 → P (LowerItem lower)) → P (content p).item
-  unfolding content
-  by_content p lower = either (eqb (length p) 0) (malformed 4) (by_kind (byte_at p 0) p) (λ e. bad 4 (omega arith)) (by_kind_lem (byte_at p 0) p lower)
+-- the bytes of a roof's spans are there
+pub spans_there : (p : List ℕ) {shape : Shape} → content p ≡ Ok (RoofItem shape) → SpansThere shape p
+spans_there p {shape} e =
+    by_content (λ (d : Result Item Refusal). (s : Shape) → d ≡ Ok (RoofItem s) → SpansThere s p) p (λ e s h. absurd (no_refusal h))
+    (λ fields s h. absurd (no_site h)) (λ x t s h. subst (λ (y : Shape). SpansThere y p) (same h) t) (λ fields k l s h. absurd (no_lower h)) shape e
+  where
+    no_refusal : {e : Refusal} {s : Shape} → ◌≡◌ {A = Result Item Refusal} (Err e) (Ok (RoofItem s)) → ⊥
+    no_refusal h = cc
 
--- a refusal has a number, never 0
-abbrev pub Numbered : Item → Type 0
-Numbered (SiteItem fields) = Unit {0}
-Numbered (RoofItem shape) = Unit {0}
-Numbered (LowerItem lower) = Unit {0}
-Numbered (Malformed number) = 0 < number
+    no_site : {fields : SiteData} {s : Shape} → ◌≡◌ {A = Result Item Refusal} (Ok (SiteItem fields)) (Ok (RoofItem s)) → ⊥
+    no_site h = cc
 
-pub numbered : (p : List ℕ) → Numbered (content p).item
-numbered p = by_content Numbered (λ fields. tt) (λ shape. tt) (λ number h. h) p (λ lower k l. tt)
+    no_lower : {fields : LowerRoof} {s : Shape} → ◌≡◌ {A = Result Item Refusal} (Ok (LowerItem fields)) (Ok (RoofItem s)) → ⊥
+    no_lower h = cc
+
+    same : {x s : Shape} → ◌≡◌ {A = Result Item Refusal} (Ok (RoofItem x)) (Ok (RoofItem s)) → x ≡ s
+    same h = cc

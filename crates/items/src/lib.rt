@@ -1,71 +1,52 @@
-// What an item's bytes say: a site, the shape of a roof with its spans, or the number by which their form is refused.
-#![tactic(auto)]
+// What an item's bytes say: a site, a roof with its spans, or a lower roof, or the refusal of their form.
+#![tactic(auto, unfolding(crate::specs::Items::by_kind, crate::specs::Items::content))]
 
-ghost use Rattle.std.specs.Prelude.{◌≡◌};
+ghost use Rattle.std.specs.Prelude.{◌≡◌, Ok};
 ghost use Rattle.item_forms.specs.Forms.{is_lower};
+ghost use Rattle.item_forms.specs.declared.Item.TheVariants.{RoofItem};
+ghost use Rattle.span_items.specs.SpanItems.{spans_said};
 ghost use Rattle.items.specs.Items.{content};
 
-pub use item_forms::{Decoded, Item};
-use item_forms::{ITEM_LENGTH, UNKNOWN_KIND, refused};
+use figures::{Kind, Refusal, Shape, Spans};
+pub use item_forms::Item;
 use roof_items::{
-    abutting_item, cylindrical_item, lower_item, monopitch_item, pitched_item, projection_item,
+    LOWER_LENGTH, abutting_item, cylindrical_item, lower_item, monopitch_item, pitched_item,
+    projection_item,
 };
 use site_items::{map_site_item, site_item};
 use span_items::{drifted_item, multi_span_item};
 
-// The kind of a lower roof, by document 02's number, and the length of its item.
-const LOWER_KIND: u8 = 10;
-
-const LOWER_LENGTH: usize = 11;
-
 // What an item's bytes say. It asks for its kind and its length alone; the value rules are the figures'.
-pub fn decode(p: &[u8]) -> Decoded
+pub fn decode(p: &[u8]) -> Result<Item, Refusal>
     ensures { result ≡ content p.now }
 {
-    if p.len() == 0 {
-        return refused(ITEM_LENGTH);
+    let number = p.first().copied().ok_or(Refusal::ItemLength)?;
+    match Kind::try_from(number)? {
+        Kind::Site => site_item(p),
+        Kind::Monopitch => monopitch_item(p),
+        Kind::Pitched => pitched_item(p),
+        Kind::MultiSpan => multi_span_item(p),
+        Kind::Cylindrical => cylindrical_item(p),
+        Kind::Abutting => abutting_item(p),
+        Kind::Projection => projection_item(p),
+        Kind::MapSite => map_site_item(p),
+        Kind::DriftedMultiSpan => drifted_item(p),
+        Kind::Stepped => lower_item(p),
     }
-    let kind = p[0];
-    // Each kind is answered apart, so that nothing is copied where they would meet.
-    if kind == 1 {
-        return site_item(p);
-    }
-    if kind == 2 {
-        return monopitch_item(p);
-    }
-    if kind == 3 {
-        return pitched_item(p);
-    }
-    if kind == 4 {
-        return multi_span_item(p);
-    }
-    if kind == 5 {
-        return cylindrical_item(p);
-    }
-    if kind == 6 {
-        return abutting_item(p);
-    }
-    if kind == 7 {
-        return projection_item(p);
-    }
-    if kind == 8 {
-        return map_site_item(p);
-    }
-    if kind == 9 {
-        return drifted_item(p);
-    }
-    if kind == 10 {
-        return lower_item(p);
-    }
-    refused(UNKNOWN_KIND)
+}
+
+// The spans of the roof that an item's bytes say, whose shape was decoded from them.
+#[tactic(auto, using(crate::proofs::Numbered::spans_there))]
+pub fn spans_in(p: &[u8], shape: Shape) -> Spans
+    requires { content p.now ≡ Ok (RoofItem shape) }
+    ensures { result ≡ spans_said shape p.now }
+{
+    span_items::spans_in(p, shape)
 }
 
 // Whether an item's bytes are a lower roof's. It is told by the kind and the length, without decoding.
 pub fn is_lower(p: &[u8]) -> bool
-    ensures { result ≡ is_lower (content p.now).item }
+    ensures { result ≡ is_lower (content p.now) }
 {
-    if p.len() != LOWER_LENGTH {
-        return false;
-    }
-    p[0] == LOWER_KIND
+    p.len() == LOWER_LENGTH && p[0] == u8::from(Kind::Stepped)
 }

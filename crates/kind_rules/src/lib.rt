@@ -2,65 +2,73 @@
 #![tactic(auto)]
 
 ghost use Rattle.std.specs.Prelude.{◌≡◌};
+ghost use Rattle.figures.specs.Refusal.{number_in};
 ghost use Rattle.figures.specs.RoofRules.{monopitch_refusal, pitched_refusal, multi_span_refusal, cylindrical_refusal, projection_refusal};
 
-use figures::{SPAN_NUMBERS, Slope, first, refused_if};
-use slope_rules::{slope_fields, span_fields, steep_valleys};
-
-// Refusals of a roof, by document 01's numbers.
-const ROOF_FIELD: u8 = 8;
-
-const VALLEY_PITCH: u8 = 9;
-
-const RISE: u8 = 10;
+use figures::{Arch, GuardedSlope, ProjectionRoof, Refusal, Spans};
+use slope_rules::{guarded_fields, span_fields, steep_valleys};
 
 // Kind 2.
-pub fn monopitch_refusal(slope: Slope, guard: u8) -> u8
-    ensures { result ≡ monopitch_refusal slope guard }
+pub fn check_monopitch(slope: GuardedSlope) -> Result<(), Refusal>
+    ensures { number_in result ≡ monopitch_refusal slope }
 {
-    refused_if(!(slope_fields(slope) & (guard <= 1)), ROOF_FIELD)
+    if !guarded_fields(slope) {
+        return Err(Refusal::RoofField);
+    }
+    Ok(())
 }
 
 // Kind 3.
-pub fn pitched_refusal(left: Slope, right: Slope, left_guard: u8, right_guard: u8) -> u8
-    ensures { result ≡ pitched_refusal left right left_guard right_guard }
+pub fn check_pitched(left: GuardedSlope, right: GuardedSlope) -> Result<(), Refusal>
+    ensures { number_in result ≡ pitched_refusal left right }
 {
-    refused_if(
-        !(slope_fields(left) & slope_fields(right) & (left_guard <= 1) & (right_guard <= 1)),
-        ROOF_FIELD,
-    )
+    if !(guarded_fields(left) && guarded_fields(right)) {
+        return Err(Refusal::RoofField);
+    }
+    Ok(())
 }
 
 // Kinds 4 and 9: 8, then 9 at a valley.
-pub fn multi_span_refusal(count: u8, drifts: bool, spans: &[u32; SPAN_NUMBERS]) -> u8
-    ensures { result ≡ multi_span_refusal count drifts spans.now }
+#[tactic(auto, unfolding(figures::specs::Rules::first_of))]
+pub fn check_multi_span(count: u8, drifts: bool, spans: &Spans) -> Result<(), Refusal>
+    ensures { number_in result ≡ multi_span_refusal count drifts spans.now }
 {
-    if !((2 <= count) & (count <= 16)) {
-        return ROOF_FIELD;
+    if !(2..=16).contains(&count) {
+        return Err(Refusal::RoofField);
     }
-    let n = count as usize;
-    let fields = refused_if(!span_fields(drifts, spans, n), ROOF_FIELD);
-    first(
-        fields,
-        refused_if(steep_valleys(spans, n - 1), VALLEY_PITCH),
-    )
+    let n = usize::from(count);
+    if !span_fields(drifts, spans, n) {
+        return Err(Refusal::RoofField);
+    }
+    if steep_valleys(spans, n) {
+        return Err(Refusal::ValleyPitch);
+    }
+    Ok(())
 }
 
 // Kind 5: 8, then 10.
-pub fn cylindrical_refusal(rise: u32, span: u32) -> u8
-    ensures { result ≡ cylindrical_refusal rise span }
+#[tactic(auto, unfolding(figures::specs::Rules::first_of))]
+pub fn check_cylindrical(arch: Arch) -> Result<(), Refusal>
+    ensures { number_in result ≡ cylindrical_refusal arch }
 {
-    let sound = ((1 <= rise) & (rise <= 15_000)) & ((2 <= span) & (span <= 30_000));
-    let fields = refused_if(!sound, ROOF_FIELD);
-    first(fields, refused_if((span as u64) < 2 * (rise as u64), RISE))
+    if !((1..=15_000).contains(&arch.rise) && (2..=30_000).contains(&arch.span)) {
+        return Err(Refusal::RoofField);
+    }
+    if arch.span < 2 * arch.rise {
+        return Err(Refusal::Rise);
+    }
+    Ok(())
 }
 
 // Kind 7.
-pub fn projection_refusal(h: u32, left: u32, right: u32) -> u8
-    ensures { result ≡ projection_refusal h left right }
+pub fn check_projection(roof: ProjectionRoof) -> Result<(), Refusal>
+    ensures { number_in result ≡ projection_refusal roof }
 {
-    let sound = ((1 <= h) & (h <= 30_000))
-        & ((1 <= left) & (left <= 100_000))
-        & ((1 <= right) & (right <= 100_000));
-    refused_if(!sound, ROOF_FIELD)
+    let sound = (1..=30_000).contains(&roof.h)
+        && (1..=100_000).contains(&roof.left)
+        && (1..=100_000).contains(&roof.right);
+    if !sound {
+        return Err(Refusal::RoofField);
+    }
+    Ok(())
 }

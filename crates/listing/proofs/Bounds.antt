@@ -1,10 +1,9 @@
 -- How long a listing can be: the room that is asked for holds the listing of any sheet.
 use Prim.Native.Nat.{ℕ, ◌-◌, ◌≤◌, ◌<◌}
-use mathlib.Core.List.{List, ◌++◌}
-use mathlib.Core.Path.{◌≡◌, refl, ap, ◌∙◌}
-use borrow.Author.Tests.{lt-ltb, le-ltb}
-use lib.ListN.{length, drop, length-append}
-use native.Mathlib.Nat.{zero-add}
+use mathlib.Core.List.{List}
+use mathlib.Core.Path.{◌≡◌, refl, ap}
+use borrow.Author.Tests.{eq-eqb, lt-ltb, le-ltb}
+use lib.ListN.{length, length-append}
 use native.Mathlib.Omega.{arith}
 use Rattle.plain_rows.specs.Words.{header}
 use Rattle.listing.specs.Listing.{listing_by, listing, list_room, listed, bytes_after}
@@ -14,7 +13,7 @@ use Rattle.sheet.specs.Sheet.{sheet_verdict}
 use Rattle.sheet_figures.specs.Find.{sheet_national}
 use Rattle.sheet_rows.specs.SheetRows.{roofs_rows}
 use Rattle.sheet_rows.proofs.Accepted.{all_short}
-use Rattle.text.proofs.Writing.{short, in_place, room, wrote_as}
+use Rattle.text.proofs.Writing.{short, in_place, room}
 use Rattle.text.specs.Written.{Wrote}
 use Rattle.text.specs.declared.writer.Writer.{Writer}
 use Rattle.upper_items.specs.Uppers.{roof_order}
@@ -23,7 +22,7 @@ use Rattle.upper_items.specs.Uppers.{roof_order}
 listing_by_lem : (store sheet : List ℕ) (v : Answer ℕ) → sheet_verdict store terminals sheet ≡ v → length (listing_by store v sheet) ≤ list_room
 unfolding listing_by
 listing_by_lem store sheet (accepted n) h =
-    omega (arith, length-append header (roofs_rows (sheet_national store sheet) sheet (roof_order sheet n) (n - 1)), all_short store sheet n h)
+    omega (arith, length-append header (roofs_rows (sheet_national store sheet) sheet (roof_order sheet n) (n - 1)), all_short store sheet n (rw h (eq-eqb n n refl)))
 listing_by_lem store sheet (refused number item) h = simp length-append (omega (arith, short number, short item))
 
 pub listing_short : (store sheet : List ℕ) → length (listing store sheet) ≤ list_room

@@ -80,7 +80,7 @@ pub example : (listing empty sheet ≡ text) × (listing empty map_sheet ≡ map
 unfolding listing listing_by roofs_rows item_rows order first_roofs added next_roof ready lowest listed upper
     roof_rows arrangement_rows codes_rows code_rows segment_rows force_rows slope_rows sheet_site sheet_national sheet_roof
     sheet_verdict store_verdict store_refusal sets_sound rules_verdict uppers_verdict upper_number circle_number comes_back meets pairs_verdict in_turn pair_number
-    item_number content by_kind site_item map_site_item site_sized day_at monopitch_item sized
+    item_number content by_kind site_item map_site_item day_at monopitch_item
     job_refusal day_refusal figures_in_use set_in_use site_data_refusal map_refusal ground_load expression zone_load row_of rows site_refusal shape_refusal first_of
     exists exists_in count count_in stretch stretch_in factor_of monopitch
     mu1 guarded segment start_of read_in load reading break_load rounded_up ceil_div larger
@@ -101,7 +101,7 @@ other (suc zero) a b = refl
 other (suc (suc i)) a b = absurd (omega arith)
 
 pub beside : GivenLoad empty map_sheet given_sheet 2
-unfolding pairs_verdict in_turn pair_number item_number content by_kind map_site_item site_sized day_at job_refusal day_refusal set_in_use site_data_refusal map_refusal ground_load expression zone_load row_of rows
+unfolding pairs_verdict in_turn pair_number item_number content by_kind map_site_item day_at job_refusal day_refusal set_in_use site_data_refusal map_refusal ground_load expression zone_load row_of rows
     first_of rounded_up ceil_div sheet_site given_item
 beside =
     record {

@@ -1,7 +1,8 @@
 -- A part that code rounds up over one denominator is the part of the definition; a break load adds them.
 use Prim.Native.Nat.{ℕ, ◌+◌, ◌*◌, ◌≤◌, ◌<◌}
 use mathlib.Core.Path.{◌≡◌, sym, ◌∙◌}
-use mathlib.Core.Bool.{true}
+use mathlib.Core.Bool.{Bool, true, false, cond}
+use native.Mathlib.Nat.{mul-one}
 use native.Mathlib.Omega.{arith}
 use Rattle.rounding.specs.Fraction.{Fraction, over, Same}
 use Rattle.rounding.specs.Load.{alone, break_load}
@@ -48,20 +49,22 @@ pub both_are :
 unfolding break_load
 both_are f g x y p q = rw (← p, ← q)
 
--- a load of one part, whether of a coefficient or of half of it
+-- a load of one part
 abbrev Loaded : Fraction → ℕ → ℕ → ℕ → Type 0
 Loaded mu factor sk r = (r ≡ break_load parts (load_alone mu factor sk)) × (r ≤ largest_part)
 
 abbrev Rounded : ℕ → ℕ → ℕ → Type 0
 Rounded n d r = (r ≡ rounded_up parts (over n (d * 1000000))) × (r ≤ largest_part)
 
-module _ (mu : Fraction) (m d factor sk r : ℕ) (h : Coefficient mu m d) where
-  pub load_is : Rounded (m * factor * sk) d r → Loaded mu factor sk r
-  load_is e = (alone_is _ r (part_is mu m d factor sk r h e.0), e.1)
+pub load_is :
+    (mu : Fraction) (m d factor sk r : ℕ) → Coefficient mu m d → Rounded (m * factor * sk) d r → Loaded mu factor sk r
+load_is mu m d factor sk r h e = (alone_is _ r (part_is mu m d factor sk r h e.0), e.1)
 
-  half : Coefficient (halved true mu) m (2 * d)
-  unfolding Same
-  half = record { positive = omega (arith, h.positive); some = omega (arith, h.some); same = omega (arith, h.same) }
-
-  pub half_load_is : Rounded (m * factor * sk) (2 * d) r → Loaded (halved true mu) factor sk r
-  half_load_is e = (alone_is _ r (part_is (halved true mu) m (2 * d) factor sk r half e.0), e.1)
+-- of a coefficient or of half of it
+pub halved_is :
+    (half : Bool) (mu : Fraction) (m d two : ℕ) → two ≡ cond half 2 1 → Coefficient mu m d → Coefficient (halved half mu) m (d * two)
+unfolding Same
+halved_is true mu m d two e h =
+    let some : 0 < d * 2 = omega (arith, h.some) in
+    rw e (record { positive = omega (arith, h.positive); some = some; same = omega (arith, h.same) })
+halved_is false mu m d two e h = let z : d * two ≡ d = rw e (mul-one d) in rw z h

@@ -2,10 +2,10 @@
 use Prim.Native.Nat.{ℕ, ◌+◌, ◌*◌, ◌≤◌}
 use native.Mathlib.Nat.{mul-le-mul, mul-le-mul_left, mul-le-mul_right}
 use native.Mathlib.Omega.{arith}
-use Rattle.loads.specs.Sizes.{Ground, Sized}
+use Rattle.loads.specs.Sizes.{GroundIn, Sized}
 use Rattle.standard.specs.Units.{parts, largest_part}
 
-pub ground : (f s : ℕ) → Ground f s → f * s ≤ 90000000000
+pub ground : (f s : ℕ) → GroundIn f s → f * s ≤ 90000000000
 ground f s g = omega (arith, mul-le-mul g.factor g.sk.high)
 
 pub record Products (m d f s : ℕ) : Type 0 where
@@ -13,13 +13,13 @@ pub record Products (m d f s : ℕ) : Type 0 where
   pub three : m * f * s ≤ 2700000000000000000
   pub most : parts * (m * f * s) ≤ largest_part * (d * 1000000)
 
-pub products : (m d f s : ℕ) → Sized m d f s → Products m d f s
-products m d f s h =
-    let two : m * f ≤ 108000000000000 = omega (arith, mul-le-mul h.top h.ground.factor) in
+pub products : (m d f s : ℕ) → Sized m d → GroundIn f s → Products m d f s
+products m d f s h g =
+    let two : m * f ≤ 108000000000000 = omega (arith, mul-le-mul h.top g.factor) in
     record {
       two = two;
-      three = omega (arith, mul-le-mul two h.ground.sk.high);
-      most = omega (arith, mul-le-mul h.most (ground f s h.ground));
+      three = omega (arith, mul-le-mul two g.sk.high);
+      most = omega (arith, mul-le-mul h.most (ground f s g));
     }
 
 -- a coefficient's numerator of at most 1600 × h × sk
@@ -27,7 +27,7 @@ pub wind_small : (w h s : ℕ) → h ≤ 30000 → s ≤ 25000 → w ≤ 1600 * 
 wind_small w h s p q r = omega (arith, mul-le-mul p q)
 
 -- what a coefficient of at most 1600 × h × sk over 200 × h × sk comes to
-pub wind_most : (w h f s : ℕ) → Ground f s → w ≤ 1600 * h * s → parts * (w * f) ≤ largest_part * (200 * h * 1000000)
+pub wind_most : (w h f s : ℕ) → GroundIn f s → w ≤ 1600 * h * s → parts * (w * f) ≤ largest_part * (200 * h * 1000000)
 wind_most w h f s g p = omega (arith, mul-le-mul_right f p, mul-le-mul_left h (ground f s g))
 
 -- the squares of the rule for a loaded width

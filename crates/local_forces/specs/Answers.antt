@@ -1,10 +1,15 @@
 -- What the answers of the calls stand for.
+use Rattle.std.specs.Prelude.{ℕ, Option, Some, None, Result, Ok, Err}
+use Rattle.figures.specs.Refusal.{number_of}
+use Rattle.figures.specs.declared.refusal.Refusal.{Refusal}
 use Rattle.standard.specs.Forces.{Force, force, none, refused}
-use Rattle.local_forces.specs.declared.answers.LocalForce.{LocalForce}
-use Rattle.local_forces.specs.declared.answers.LocalForce.TheVariants.{Newtons, NoForce, Refused}
 
--- the force that an answer stands for
-abbrev pub force_means : LocalForce → Force
-force_means (Newtons n) = force n
-force_means NoForce = none
-force_means (Refused k) = refused k
+-- a force in N/m, or none
+abbrev pub force_or_none : Option ℕ → Force
+force_or_none (Some newtons) = force newtons
+force_or_none None = none
+
+-- the same of a call that may refuse its figures
+abbrev pub force_means : Result (Option ℕ) Refusal → Force
+force_means (Ok answer) = force_or_none answer
+force_means (Err refusal) = refused (number_of refusal)

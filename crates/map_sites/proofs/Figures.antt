@@ -2,9 +2,9 @@
 use Prim.Native.Nat.{ℕ}
 use mathlib.Core.List.{[], ◌∷◌}
 use mathlib.Core.Path.{◌≡◌, refl}
+use Rattle.std.specs.Prelude.{None}
 use Rattle.figures.specs.Rules.{first_of}
 use Rattle.figures.specs.declared.site.Ground.TheVariants.{OnMap}
-use Rattle.figures.specs.declared.site.JobDay.TheVariants.{Undated}
 use Rattle.figures.specs.declared.site.SiteData.{SiteData}
 use Rattle.ground_loads.specs.Map.{rows, row_of, zone_load, expression, ground_load}
 use Rattle.rounding.specs.Up.{ceil_div, rounded_up}
@@ -20,7 +20,7 @@ unfolding map_refusal first_of ground_load expression zone_load row_of rows roun
 refusals = refl
 
 abbrev site_at : ℕ → ℕ → ℕ → ℕ → SiteData
-site_at region zone ce altitude = record { ground = OnMap region zone; ce = ce; ct = 100; cesl = 200; situation = 0; altitude = altitude; day = Undated }
+site_at region zone ce altitude = record { ground = OnMap region zone; ce = ce; ct = 100; cesl = 200; situation = 0; altitude = altitude; day = None }
 
 -- the other fields before all of these
 pub site_refusals :

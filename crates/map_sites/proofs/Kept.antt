@@ -1,38 +1,23 @@
 -- What the tests on a place on the map make of the definitions, and that an item's site that breaks no rule is an accepted site.
 use Prim.Native.Nat.{ℕ, ◌≤◌}
-use mathlib.Core.Bool.{true, false, not}
+use mathlib.Core.Bool.{true}
 use mathlib.Core.Path.{◌≡◌}
-use borrow.Author.Tests.{eq-eqb, ne_eqb, ltb-false}
+use borrow.Author.Tests.{ltb-false}
 use lib.Dec.{ltb}
 use native.Mathlib.Omega.{arith}
 use Rattle.figures.proofs.Accepted.{range, sound}
-use Rattle.figures.proofs.Laws.{both, within_in, first_broken, none_broken, kept}
+use Rattle.figures.proofs.Laws.{both, within_in, none_broken, kept}
 use Rattle.figures.specs.Ranges.{within}
-use Rattle.figures.specs.Rules.{refused_if, first_of}
+use Rattle.figures.specs.Rules.{first_of}
 use Rattle.figures.specs.SiteRules.{ground_field, other_fields, altitude_refusal, site_refusal}
 use Rattle.figures.specs.declared.site.Ground.{Ground}
 use Rattle.figures.specs.declared.site.Ground.TheVariants.{Given, OnMap}
 use Rattle.figures.specs.declared.site.SiteData.{SiteData}
 use Rattle.ground_loads.specs.Map.{MapIn, ground_load}
-use Rattle.map_sites.specs.Sites.{map_fields, map_refusal, ground_answer, sk_of, site_with, site_from}
+use Rattle.map_sites.specs.Sites.{map_fields, map_refusal, sk_of, site_with, site_from}
 use Rattle.map_sites.specs.Sites.{refusal_by, site_data_refusal}
-use Rattle.map_sites.specs.declared.map.GroundLoad.TheVariants.{Load, Refused}
 
 module _ (region zone altitude : ℕ) where
-  pub map_high : (altitude_refusal altitude ≡ 0 → ⊥) → altitude_refusal altitude ≡ map_refusal region zone altitude
-  unfolding map_refusal
-  map_high h = first_broken _ _ h
-
-  pub map_outside : altitude_refusal altitude ≡ 0 → map_fields region zone ≡ false → 14 ≡ map_refusal region zone altitude
-  unfolding map_refusal first_of
-  map_outside h e = rw (h, e)
-
-  pub map_inside :
-      altitude_refusal altitude ≡ 0 → map_fields region zone ≡ true
-      → refused_if (not (ground_field (ground_load region zone altitude))) 15 ≡ map_refusal region zone altitude
-  unfolding map_refusal first_of
-  map_inside h e = rw (h, e)
-
   pub place_in : altitude_refusal altitude ≡ 0 → map_fields region zone ≡ true → MapIn region zone altitude
   place_in h e =
       let p = both (within 1 8 region) (within 1 5 zone) e in
@@ -55,31 +40,17 @@ module _ (region zone altitude : ℕ) where
   pub load_most : map_refusal region zone altitude ≡ 0 → ground_load region zone altitude ≤ 25000
   load_most e = (within_in 100 25000 _ (map_kept e).1).1
 
-  pub ground_refused : (map_refusal region zone altitude ≡ 0 → ⊥) → Refused (map_refusal region zone altitude) ≡ ground_answer region zone altitude
-  unfolding ground_answer
-  ground_refused h = rw (ne_eqb _ 0 h)
-
-  pub ground_answered : map_refusal region zone altitude ≡ 0 → Load (ground_load region zone altitude) ≡ ground_answer region zone altitude
-  unfolding ground_answer
-  ground_answered h = rw (eq-eqb _ 0 h)
-
 -- an item's site by its ground load
 module _ (d : SiteData) where
-  map_sound : (region zone : ℕ) → refusal_by (OnMap region zone) d ≡ 0 → site_refusal (site_with (ground_load region zone d.altitude) d) ≡ 0
+  pub map_sound :
+      (region zone : ℕ) → other_fields d.ce d.ct d.cesl d.situation ≡ true → map_refusal region zone d.altitude ≡ 0
+      → site_refusal (site_with (ground_load region zone d.altitude) d) ≡ 0
   unfolding site_refusal first_of
-  map_sound region zone e =
-      let a = none_broken _ _ e in
-      let k = map_kept region zone d.altitude a.1 in
-      let f = sound (other_fields d.ce d.ct d.cesl d.situation) 6 (omega arith) a.0 in
-      rw (k.1, f, k.2)
+  map_sound region zone f e = let k = map_kept region zone d.altitude e in rw (k.1, f, k.2)
 
   site_by_lem : (g : Ground) → refusal_by g d ≡ 0 → site_refusal (site_with (sk_of g d.altitude) d) ≡ 0
   site_by_lem (Given sk) e = e
-  site_by_lem (OnMap region zone) e = map_sound region zone e
-
-  pub place_kept : (region zone : ℕ) → d.ground ≡ OnMap region zone → site_data_refusal d ≡ 0 → map_refusal region zone d.altitude ≡ 0
-  unfolding site_data_refusal
-  place_kept region zone g e = let f : refusal_by (OnMap region zone) d ≡ 0 = rw g at e in (none_broken _ _ f).1
+  site_by_lem (OnMap region zone) e = let a = none_broken _ _ e in map_sound region zone (sound (other_fields d.ce d.ct d.cesl d.situation) 6 (omega arith) a.0) a.1
 
   -- the site of an item that breaks no rule is accepted
   pub site_accepted : site_data_refusal d ≡ 0 → site_refusal (site_from d) ≡ 0

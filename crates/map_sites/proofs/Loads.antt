@@ -9,16 +9,16 @@ use Rattle.ground_loads.specs.Map.{row_of, expression, ground_load}
 use Rattle.ground_loads.proofs.Rows.{load_smallest, load_rises}
 use Rattle.rounding.specs.Up.{Smallest}
 use Rattle.map_sites.specs.Sites.{map_refusal, ground_answer}
-use Rattle.map_sites.specs.declared.map.GroundLoad.TheVariants.{Load, Refused}
+use Rattle.std.specs.Prelude.{Ok, Err}
 use Rattle.map_sites.proofs.Kept.{map_kept}
 
-told_by : (b : Bool) (number load n : ℕ) → cond b (Load load) (Refused number) ≡ Load n → (b ≡ true) × (load ≡ n)
+told_by : (b : Bool) (number load n : ℕ) → cond b (Ok load) (Err number) ≡ Ok n → (b ≡ true) × (load ≡ n)
 told_by true number load n e = (refl, cc)
 told_by false number load n e = let z : ◌≡◌ {A = ℕ} 0 1 = cc in absurd (omega arith)
 
 -- a load is answered where no rule is broken, and it is the load of the place
 told :
-    (region zone altitude n : ℕ) → ground_answer region zone altitude ≡ Load n
+    (region zone altitude n : ℕ) → ground_answer region zone altitude ≡ Ok n
     → (map_refusal region zone altitude ≡ 0) × (ground_load region zone altitude ≡ n)
 unfolding ground_answer
 told region zone altitude n e =
@@ -26,13 +26,13 @@ told region zone altitude n e =
     (eqb-true (map_refusal region zone altitude) 0 t.0, t.1)
 
 module _ (region zone : ℕ) where
-  pub answered_smallest : (altitude n : ℕ) → ground_answer region zone altitude ≡ Load n → Smallest (expression (row_of region) zone altitude) n
+  pub answered_smallest : (altitude n : ℕ) → ground_answer region zone altitude ≡ Ok n → Smallest (expression (row_of region) zone altitude) n
   answered_smallest altitude n e =
       let t = told region zone altitude n e in
       subst (Smallest (expression (row_of region) zone altitude)) t.1
       (load_smallest region zone (map_kept region zone altitude t.0).0.region altitude)
 
-  pub answered_rises : (a b m n : ℕ) → ground_answer region zone a ≡ Load m → ground_answer region zone b ≡ Load n → a ≤ b → m ≤ n
+  pub answered_rises : (a b m n : ℕ) → ground_answer region zone a ≡ Ok m → ground_answer region zone b ≡ Ok n → a ≤ b → m ≤ n
   answered_rises a b m n e f h =
       let t = told region zone a m e in
       let u = told region zone b n f in

@@ -1,5 +1,5 @@
 -- The value rules on a place on the map and on an item's site, and the site that it is: refusals 6, 7, 14 and 15.
-use Rattle.std.specs.Prelude.{ℕ, Bool, not, cond, ◌&&◌, eqb}
+use Rattle.std.specs.Prelude.{ℕ, Bool, not, cond, ◌&&◌, eqb, Result, Ok, Err}
 use Rattle.figures.specs.Ranges.{within}
 use Rattle.figures.specs.Rules.{refused_if, first_of}
 use Rattle.figures.specs.SiteRules.{ground_field, other_fields, altitude_refusal, site_refusal}
@@ -8,8 +8,6 @@ use Rattle.figures.specs.declared.site.Ground.TheVariants.{Given, OnMap}
 use Rattle.figures.specs.declared.site.Site.{Site}
 use Rattle.figures.specs.declared.site.SiteData.{SiteData}
 use Rattle.ground_loads.specs.Map.{ground_load}
-use Rattle.map_sites.specs.declared.map.GroundLoad.{GroundLoad}
-use Rattle.map_sites.specs.declared.map.GroundLoad.TheVariants.{Load, Refused}
 
 -- "Regions 1 to 8", "zones 1 to 5"
 abbrev pub map_fields : ℕ → ℕ → Bool
@@ -23,12 +21,12 @@ map_refusal region zone altitude =
     (first_of (refused_if (not (map_fields region zone)) 14)
     (refused_if (not (ground_field (ground_load region zone altitude))) 15))
 
--- the load of a region, a zone and an altitude, or the first rule that they break
-unfoldable pub ground_answer : ℕ → ℕ → ℕ → GroundLoad
+-- the load of a region, a zone and an altitude, or the number of the first rule that they break
+unfoldable pub ground_answer : ℕ → ℕ → ℕ → Result ℕ ℕ
 ground_answer region zone altitude =
     cond (eqb (map_refusal region zone altitude) 0)
-    (Load (ground_load region zone altitude))
-    (Refused (map_refusal region zone altitude))
+    (Ok (ground_load region zone altitude))
+    (Err (map_refusal region zone altitude))
 
 -- the ground load of an item's site: "that whole number is sk"
 abbrev pub sk_of : (ground : Ground) → ℕ → ℕ

@@ -4,5 +4,5 @@
 mod map;
 mod sites;
 
-pub use map::{GroundLoad, ground_load};
-pub use sites::{site_data_refusal, site_from};
+pub use map::ground_load;
+pub use sites::site_from;

@@ -2,25 +2,37 @@
 // Every call takes any bytes, any word and any pair.
 #![tactic(auto)]
 
-ghost use Rattle.std.specs.Prelude.{◌≡◌};
+ghost use Rattle.std.specs.Prelude.{◌≡◌, ◌+◌};
 ghost use Rattle.pair_words.specs.Words.{word_of, join, split};
 
-use little_endian::byte_to_u32;
-
 // A pair: where an item begins in the sheet, and how many bytes it has.
-#[derive(Clone, Copy)]
+#[derive(Clone, Copy, Debug, PartialEq, Eq)]
 pub struct Pair {
     pub offset: u16,
     pub size: u16,
+}
+
+impl Pair {
+    // Where its item begins in the sheet.
+    pub fn start(self) -> usize
+        ensures { result ≡ self.offset }
+    {
+        usize::from(self.offset)
+    }
+
+    // Where its item ends.
+    pub fn end(self) -> usize
+        ensures { result ≡ self.offset + self.size }
+    {
+        self.start() + usize::from(self.size)
+    }
 }
 
 // The word of a pair's four bytes.
 pub fn word(first: u8, second: u8, third: u8, fourth: u8) -> u32
     ensures { result ≡ word_of first second third fourth }
 {
-    let offset = byte_to_u32(first) + 256 * byte_to_u32(second);
-    let size = byte_to_u32(third) + 256 * byte_to_u32(fourth);
-    offset + 65_536 * size
+    u32::from_le_bytes([first, second, third, fourth])
 }
 
 // The offset and the length of a word. Joined again, they are the word.
@@ -37,5 +49,5 @@ pub fn split(w: u32) -> Pair
 pub fn join(p: Pair) -> u32
     ensures { (result ≡ join p) × (split result ≡ p) }
 {
-    p.offset as u32 + 65_536 * (p.size as u32)
+    u32::from(p.offset) + 65_536 * u32::from(p.size)
 }

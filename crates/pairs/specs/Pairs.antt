@@ -1,10 +1,11 @@
 -- The count and the pairs of a sheet, and the verdict on them: refusals 1 and 2.
-use Rattle.std.specs.Prelude.{ℕ, zero, suc, ◌+◌, ◌*◌, ◌≤◌, ◌<◌, cond, ◌&&◌, List, leb, eqb, length, take, drop}
+use Rattle.std.specs.Prelude.{ℕ, zero, suc, ◌≡◌, ◌+◌, ◌*◌, ◌≤◌, ◌<◌, cond, ◌&&◌, List, leb, eqb, length, take, drop, Result, Ok, Err}
+use Rattle.figures.specs.Refusal.{number_of}
+use Rattle.figures.specs.declared.refusal.Refusal.{Refusal}
 use Rattle.little_endian.specs.Numbers.{le16}
 use Rattle.ceilings.specs.Ceilings.{fits}
 use Rattle.ceilings.specs.declared.Ceiling.{Ceiling}
-use Rattle.pairs.specs.declared.Verdict.{Verdict}
-use Rattle.pairs.specs.declared.Verdict.TheVariants.{Accepted, Refused}
+use Rattle.pairs.specs.declared.turns.Refused.{Refused}
 
 -- an answer: a value, or the number of the rule that is broken and the item that it names
 pub data Answer (A : Type 0) : Type 0 where
@@ -57,12 +58,20 @@ pub record PartIn (s : List ℕ) (i : ℕ) : Type 0 where
 abbrev pub PartsIn : List ℕ → ℕ → Type 0
 PartsIn s n = (i : ℕ) → i < n → PartIn s i
 
+-- what an answer says by document 01's numbers
+abbrev pub answer_means : {A : Type 0} → Result A Refused → Answer A
+answer_means (Ok a) = accepted a
+answer_means (Err e) = refused (number_of e.refusal) e.item
+
 -- what an answer of `verdict` says
-abbrev pub verdict_means : Verdict → Answer ℕ
-verdict_means (Accepted n) = accepted n
-verdict_means (Refused number item) = refused number item
+abbrev pub verdict_means : Result ℕ Refused → Answer ℕ
+verdict_means r = answer_means r
 
 -- the count in it, 0 where it is a refusal
-abbrev pub verdict_count : Verdict → ℕ
-verdict_count (Accepted n) = n
-verdict_count (Refused number item) = 0
+abbrev pub verdict_count : Result ℕ Refused → ℕ
+verdict_count (Ok n) = n
+verdict_count (Err e) = 0
+
+-- a refusal that names no item of its own names item 0
+abbrev pub NamesNone : Refusal → Refused → Type 0
+NamesNone refusal r = r ≡ record { refusal = refusal; item = 0 }

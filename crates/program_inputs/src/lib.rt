@@ -19,6 +19,7 @@ pub fn read_full<R: Read>(input: &mut R, room: &mut [u8]) -> io::Result<usize>
     ensures end { IfOk result (λ n. n < length room.new → IsAtEnd (R.remaining input.new)) }
 {
     let mut done = 0;
+    // A read says how much came, so there is no count to go over; after an early end `read_exact` does not say how much.
     while done < room.len() {
         let n = input.read(&mut room[done..])?;
         if n == 0 {

@@ -3,50 +3,25 @@
 
 ghost use Rattle.std.specs.Prelude.{◌≡◌, length, ◌≤◌};
 ghost use Rattle.roof_arrangements.specs.Arrangement.{made_means, made_count, contents};
-ghost use Rattle.standard.specs.Answers.{room_answer, make_in};
-ghost use Rattle.standard.specs.Bounds.{FiguresIn};
+ghost use Rattle.standard.specs.Answers.{make_in};
 
-use code_rules::{NO_ARRANGEMENT, has_arrangement};
-use figures::{National, Roof, Site};
+use figures::{AcceptedFigures, Refusal};
+use segments::Arrangement;
 use written_segments::write;
 
-// The refusal of a slice, by document 01's number.
-const SLICE: u8 = 11;
-
-// What the maker answers: how many segments it wrote, or the number of the first broken rule.
-#[derive(Clone, Copy)]
-pub enum Made {
-    Segments(usize),
-    Refused(u8),
-}
-
-// The arrangement of a code of accepted figures, where the slice has room for it.
-fn make_accepted(national: National, site: Site, roof: Roof, code: u8, out: &mut [u32]) -> Made
-    requires { FiguresIn national site roof }
-    ensures answer { made_means result ≡ room_answer national roof code (length out.old) }
-    ensures written { out.new ≡ contents national site roof code result out.old }
+// Makes the arrangement of a code of accepted figures, where the roof has it and the slice has room for it: its segments at the front of
+// the slice, four numbers each. The answer is how many there are. For the crates above, which have the national figures in use.
+#[tactic(auto, using(std::proofs::lemmas::Bool::Decides::nat_tests), unfolding(standard::specs::Answers::make_in, standard::specs::Answers::after_code, standard::specs::Answers::room_answer))]
+pub fn make_in(figures: &AcceptedFigures, code: u8, out: &mut [u32]) -> Result<usize, Refusal>
+    ensures answer { made_means result ≡ make_in figures.now.national figures.now.site figures.now.roof code (length out.old) }
+    ensures written { out.new ≡ contents figures.now.national figures.now.site figures.now.roof code result out.old }
     ensures few { made_count result ≤ 32 }
 {
-    let shape = roof.shape;
-    let spans = roof.spans;
-    let n = segments::count(national, site, shape, &spans, code);
+    let arrangement = Arrangement::find(figures, code)?;
+    let n = arrangement.count();
     if out.len() < 4 * n {
-        return Made::Refused(SLICE);
+        return Err(Refusal::Slice);
     }
-    write(national, site, shape, &spans, code, n, out);
-    Made::Segments(n)
-}
-
-// The arrangement of a code of accepted figures, where the roof has it. For the crates above, which have the national figures in use.
-pub fn make_in(national: National, site: Site, roof: Roof, code: u8, out: &mut [u32]) -> Made
-    requires { FiguresIn national site roof }
-    ensures answer { made_means result ≡ make_in national site roof code (length out.old) }
-    ensures written { out.new ≡ contents national site roof code result out.old }
-    ensures few { made_count result ≤ 32 }
-{
-    let shape = roof.shape;
-    if !has_arrangement(site, shape, code) {
-        return Made::Refused(NO_ARRANGEMENT);
-    }
-    make_accepted(national, site, roof, code, out)
+    write(arrangement, out);
+    Ok(n)
 }

@@ -1,93 +1,85 @@
 // The items of a roof that has no spans beside it, kinds 2, 3, 5, 6, 7 and 10.
-#![tactic(auto)]
+#![tactic(auto, unfolding(crate::specs::RoofItems::monopitch_item, crate::specs::RoofItems::pitched_item, crate::specs::RoofItems::cylindrical_item, crate::specs::RoofItems::abutting_item, crate::specs::RoofItems::projection_item, crate::specs::RoofItems::lower_item))]
 
-ghost use Rattle.std.specs.Prelude.{◌≡◌, length};
-ghost use Rattle.roof_items.specs.RoofItems.{monopitch_item, pitched_item, cylindrical_item, abutting_item, projection_item, lower_at, lower_item};
+ghost use Rattle.std.specs.Prelude.{◌≡◌, ◌+◌, ◌<◌, ◌≤◌, length};
+ghost use Rattle.roof_items.specs.RoofItems.{guarded_at, monopitch_item, pitched_item, cylindrical_item, abutting_item, projection_item, lower_at, lower_item};
 
-use figures::{LowerRoof, Shape};
-use item_forms::{Decoded, ITEM_LENGTH, Item, alone, refused, slope_at};
+use figures::{AbuttingRoof, Arch, GuardedSlope, LowerRoof, ProjectionRoof, Refusal, Shape};
+use item_forms::{Item, check_length, slope_at};
 use little_endian::u32_at;
 
+// A slope whose pitch, width and guard stand at three bytes.
+fn guarded_at(p: &[u8], pitch: usize, width: usize, guard: usize) -> GuardedSlope
+    requires { (pitch + 2 ≤ length p.now) × (width + 4 ≤ length p.now) × (guard < length p.now) }
+    ensures { result ≡ guarded_at p.now pitch width guard }
+{
+    GuardedSlope {
+        slope: slope_at(p, pitch, width),
+        guard: p[guard],
+    }
+}
+
 // A monopitch roof.
-pub fn monopitch_item(p: &[u8]) -> Decoded
+pub fn monopitch_item(p: &[u8]) -> Result<Item, Refusal>
     ensures { result ≡ monopitch_item p.now }
 {
-    if p.len() != 8 {
-        return refused(ITEM_LENGTH);
-    }
-    let shape = Shape::Monopitch {
-        slope: slope_at(p, 1, 4),
-        guard: p[3],
-    };
-    alone(Item::RoofItem(shape))
+    check_length(p, 8)?;
+    Ok(Item::RoofItem(Shape::Monopitch(guarded_at(p, 1, 4, 3))))
 }
 
 // A pitched roof.
-pub fn pitched_item(p: &[u8]) -> Decoded
+pub fn pitched_item(p: &[u8]) -> Result<Item, Refusal>
     ensures { result ≡ pitched_item p.now }
 {
-    if p.len() != 15 {
-        return refused(ITEM_LENGTH);
-    }
-    let shape = Shape::Pitched {
-        left: slope_at(p, 1, 7),
-        right: slope_at(p, 3, 11),
-        left_guard: p[5],
-        right_guard: p[6],
-    };
-    alone(Item::RoofItem(shape))
+    check_length(p, 15)?;
+    Ok(Item::RoofItem(Shape::Pitched {
+        left: guarded_at(p, 1, 7, 5),
+        right: guarded_at(p, 3, 11, 6),
+    }))
 }
 
 // A cylindrical roof.
-pub fn cylindrical_item(p: &[u8]) -> Decoded
+pub fn cylindrical_item(p: &[u8]) -> Result<Item, Refusal>
     ensures { result ≡ cylindrical_item p.now }
 {
-    if p.len() != 9 {
-        return refused(ITEM_LENGTH);
-    }
-    let shape = Shape::Cylindrical {
+    check_length(p, 9)?;
+    Ok(Item::RoofItem(Shape::Cylindrical(Arch {
         rise: u32_at(p, 1),
         span: u32_at(p, 5),
-    };
-    alone(Item::RoofItem(shape))
+    })))
 }
 
 // A lower flat roof at a taller one.
-pub fn abutting_item(p: &[u8]) -> Decoded
+pub fn abutting_item(p: &[u8]) -> Result<Item, Refusal>
     ensures { result ≡ abutting_item p.now }
 {
-    if p.len() != 20 {
-        return refused(ITEM_LENGTH);
-    }
-    let shape = Shape::Abutting {
+    check_length(p, 20)?;
+    Ok(Item::RoofItem(Shape::Abutting(AbuttingRoof {
         b1: u32_at(p, 1),
         b2: u32_at(p, 5),
         h: u32_at(p, 9),
-        slope: slope_at(p, 17, 13),
-        guard: p[19],
+        slope: guarded_at(p, 17, 13, 19),
         stepped: false,
-    };
-    alone(Item::RoofItem(shape))
+    })))
 }
 
 // A projection on a flat roof.
-pub fn projection_item(p: &[u8]) -> Decoded
+pub fn projection_item(p: &[u8]) -> Result<Item, Refusal>
     ensures { result ≡ projection_item p.now }
 {
-    if p.len() != 13 {
-        return refused(ITEM_LENGTH);
-    }
-    let shape = Shape::Projection {
+    check_length(p, 13)?;
+    Ok(Item::RoofItem(Shape::Projection(ProjectionRoof {
         h: u32_at(p, 1),
         left: u32_at(p, 5),
         right: u32_at(p, 9),
-    };
-    alone(Item::RoofItem(shape))
+    })))
 }
 
-// The fields of a lower roof that takes its upper figures from another item of its sheet. For the crates above, which know
-// the item's length.
-pub fn lower_at(p: &[u8]) -> LowerRoof
+// The length of a lower roof's item.
+pub const LOWER_LENGTH: usize = 11;
+
+// The fields of a lower roof that takes its upper figures from another item of its sheet.
+fn lower_at(p: &[u8]) -> LowerRoof
     requires { length p.now ≡ 11 }
     ensures { result ≡ lower_at p.now }
 {
@@ -100,11 +92,9 @@ pub fn lower_at(p: &[u8]) -> LowerRoof
 }
 
 // Its item.
-pub fn lower_item(p: &[u8]) -> Decoded
+pub fn lower_item(p: &[u8]) -> Result<Item, Refusal>
     ensures { result ≡ lower_item p.now }
 {
-    if p.len() != 11 {
-        return refused(ITEM_LENGTH);
-    }
-    alone(Item::LowerItem(lower_at(p)))
+    check_length(p, LOWER_LENGTH)?;
+    Ok(Item::LowerItem(lower_at(p)))
 }

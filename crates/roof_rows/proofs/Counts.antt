@@ -15,7 +15,7 @@ use Rattle.figures.proofs.Accepted.{range, shape_in, few_spans}
 use Rattle.figures.proofs.Laws.{both}
 use Rattle.roof_rows.specs.Rows.{code_rows, codes_rows, arrangement_rows, row_count, row_counts}
 use Rattle.standard.specs.Arrangements.{exists, count}
-use Rattle.standard.specs.Bounds.{FiguresIn}
+use Rattle.figures.specs.Bounds.{FiguresIn}
 use Rattle.standard.specs.Codes.{drifts_in, base_code, names_valley, highest_code, last_code}
 use Rattle.figures.specs.declared.national.National.{National}
 use Rattle.standard.proofs.Codes.{persistent_codes, base_persistent, with_drifts, named_base, codes_in, last_highest}

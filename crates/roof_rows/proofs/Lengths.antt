@@ -12,7 +12,7 @@ use Rattle.roof_rows.proofs.Counts.{rows_most}
 use Rattle.roof_rows.proofs.Lines.{segments_short}
 use Rattle.roof_rows.specs.Rows.{segment_rows, code_rows, codes_rows, arrangement_rows, roof_rows, row_count, row_counts}
 use Rattle.standard.specs.Arrangements.{exists, count, stretch}
-use Rattle.standard.specs.Bounds.{FiguresIn}
+use Rattle.figures.specs.Bounds.{FiguresIn}
 use Rattle.standard.specs.Codes.{highest_code}
 use Rattle.figures.specs.declared.national.National.{National}
 

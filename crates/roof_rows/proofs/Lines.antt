@@ -1,10 +1,9 @@
 -- Rows: how long they are, and that those of a lent slice are those of the segments at its front.
-use Prim.Native.Nat.{ℕ, zero, suc, ◌+◌, ◌*◌, ◌≤◌}
+use Prim.Native.Nat.{ℕ, zero, suc, ◌+◌, ◌-◌, ◌*◌, ◌≤◌}
 use mathlib.Core.Bool.{true, false}
 use mathlib.Core.List.{List, [], ◌∷◌, ◌++◌}
 use mathlib.Core.Path.{◌≡◌, refl, ap, ◌∙◌}
 use lib.ListN.{length, length-append}
-use native.Mathlib.Numerals.{add-one}
 use native.Mathlib.Omega.{arith}
 use Rattle.figures.specs.declared.site.Site.{Site}
 use Rattle.figures.specs.declared.roof.Roof.{Roof}
@@ -67,11 +66,14 @@ module _ (national : National) (s : Site) (r : Roof) (item code : ℕ) where
         ap (λ (l : List ℕ). slice_rows l item code n) f
         ∙ (slice_rows_lem (stretch national s r code) rest n item code n (omega arith) ∙ rw (e, c))
 
-  -- one code more
-  pub next_rows : codes_rows national s r item code ++ code_rows national s r item (code + 1) ≡ codes_rows national s r item (code + 1)
+-- one code more
+module _ (national : National) (s : Site) (r : Roof) where
+  pub next_rows : (item code : ℕ) → 1 ≤ code → codes_rows national s r item (code - 1) ++ code_rows national s r item code ≡ codes_rows national s r item code
   unfolding codes_rows
-  next_rows = rw (add-one code)
+  next_rows item zero h = absurd (omega arith)
+  next_rows item (suc n) h = let e : suc n - 1 ≡ n = omega arith in rw e
 
-  pub next_count : row_counts national s r (code + 1) ≡ row_counts national s r code + row_count national s r (code + 1)
+  pub next_count : (code : ℕ) → 1 ≤ code → row_counts national s r (code - 1) + row_count national s r code ≡ row_counts national s r code
   unfolding row_counts
-  next_count = rw (add-one code)
+  next_count zero h = absurd (omega arith)
+  next_count (suc n) h = let e : suc n - 1 ≡ n = omega arith in rw e

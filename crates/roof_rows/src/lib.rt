@@ -2,16 +2,17 @@
 #![tactic(auto)]
 
 ghost use Rattle.std.specs.Prelude.{true, ◌≡◌, ◌+◌, ◌*◌, ◌≤◌, length};
-ghost use Rattle.figures.specs.RoofRules.{roof_of, kind_of, span_count};
+ghost use Rattle.figures.specs.Kind.{kind_number};
+ghost use Rattle.figures.specs.RoofRules.{kind_of, span_count};
 ghost use Rattle.roof_rows.specs.Rows.{code_rows, arrangement_rows, roof_rows, row_count};
 ghost use Rattle.standard.specs.Arrangements.{exists};
-ghost use Rattle.standard.specs.Bounds.{FiguresIn};
 ghost use Rattle.text.specs.Written.{Wrote};
 
-use codes::{has_code, last_code};
-use figures::{National, Roof, SPAN_NUMBERS, Shape, Site, kind_of, span_count};
+use codes::RoofCodes;
+use figures::AcceptedFigures;
 use force_rows::list_forces;
-use segment_rows::list_segments;
+use segment_rows::{Heading, list_segments};
+use segments::Arrangement;
 use text::Writer;
 use written_segments::write;
 
@@ -20,88 +21,68 @@ pub const NUMBERS: usize = 128;
 
 // Writes the rows of an arrangement that exists.
 fn list_arrangement(
-    national: National,
-    site: Site,
-    shape: Shape,
-    spans: &[u32; SPAN_NUMBERS],
-    item: u32,
-    code: u8,
-    numbers: &mut [u32; NUMBERS],
     out: &mut Writer,
+    arrangement: Arrangement,
+    item: u32,
+    numbers: &mut [u32; NUMBERS],
 )
-    requires { FiguresIn national site (roof_of shape spans.now) × (exists site (roof_of shape spans.now) code ≡ true) × (out.old.at + 66 * row_count national site (roof_of shape spans.now) code ≤ length out.old.bytes.now) }
-    ensures wrote { Wrote out.old (code_rows national site (roof_of shape spans.now) item code) out.new }
-    ensures upper_bound { out.new.at ≤ out.old.at + 66 * row_count national site (roof_of shape spans.now) code }
+    requires found { let f = arrangement.figures.now in exists f.site f.roof arrangement.code ≡ true }
+    requires room { let f = arrangement.figures.now in out.old.at + 66 * row_count f.national f.site f.roof arrangement.code ≤ length out.old.bytes.now }
+    ensures wrote { let f = arrangement.entry.figures.now in Wrote out.old (code_rows f.national f.site f.roof item arrangement.entry.code) out.new }
+    ensures upper_bound { let f = arrangement.entry.figures.now in out.new.at ≤ out.old.at + 66 * row_count f.national f.site f.roof arrangement.entry.code }
 {
-    let n = segments::count(national, site, shape, spans, code);
-    write(national, site, shape, spans, code, n, numbers);
-    list_segments(out, item, code as u32, &numbers[..4 * n]);
+    write(arrangement, numbers);
+    let heading = Heading {
+        item,
+        code: u32::from(arrangement.code),
+    };
+    list_segments(out, heading, &numbers[..4 * arrangement.count()]);
 }
 
-// Writes the rows of one code, and nothing where the roof, of its kind and number of spans, hasn't it.
+// Writes the rows of one code, and nothing where the roof, whose codes these are, hasn't it. The roof's codes are found once for all of
+// them, so they come beside its figures; a struct of both would be taken apart at once.
 fn list_code(
-    national: National,
-    site: Site,
-    shape: Shape,
-    spans: &[u32; SPAN_NUMBERS],
-    kind: u8,
-    count: u8,
+    out: &mut Writer,
+    figures: &AcceptedFigures,
+    codes: RoofCodes,
     item: u32,
     code: u8,
     numbers: &mut [u32; NUMBERS],
-    out: &mut Writer,
 )
-    requires kind_value { (kind ≡ kind_of shape) × (count ≡ span_count shape) }
-    requires figures_in { FiguresIn national site (roof_of shape spans.now) × (out.old.at + 66 * row_count national site (roof_of shape spans.now) code ≤ length out.old.bytes.now) }
-    ensures wrote { Wrote out.old (code_rows national site (roof_of shape spans.now) item code) out.new }
-    ensures upper_bound { out.new.at ≤ out.old.at + 66 * row_count national site (roof_of shape spans.now) code }
+    requires codes { let f = figures.now in (kind_number codes.kind ≡ kind_of f.roof.shape) × (codes.situation ≡ f.site.situation) × (codes.spans ≡ span_count f.roof.shape) }
+    requires room { let f = figures.now in out.old.at + 66 * row_count f.national f.site f.roof code ≤ length out.old.bytes.now }
+    ensures wrote { let f = figures.now in Wrote out.old (code_rows f.national f.site f.roof item code) out.new }
+    ensures upper_bound { let f = figures.now in out.new.at ≤ out.old.at + 66 * row_count f.national f.site f.roof code }
 {
-    if !has_code(kind, site.situation, count, code) {
+    if !codes.has(code) {
         return;
     }
-    list_arrangement(national, site, shape, spans, item, code, numbers, out);
+    list_arrangement(out, Arrangement::of(figures, code), item, numbers);
 }
 
 // Writes the rows of every arrangement of a roof, code upward.
-fn list_codes(
-    national: National,
-    site: Site,
-    shape: Shape,
-    spans: &[u32; SPAN_NUMBERS],
-    item: u32,
-    numbers: &mut [u32; NUMBERS],
-    out: &mut Writer,
-)
-    requires { FiguresIn national site (roof_of shape spans.now) × (out.old.at + 8448 ≤ length out.old.bytes.now) }
-    ensures wrote { Wrote out.old (arrangement_rows national site (roof_of shape spans.now) item) out.new }
+fn list_codes(out: &mut Writer, figures: &AcceptedFigures, item: u32, numbers: &mut [u32; NUMBERS])
+    requires { out.old.at + 8448 ≤ length out.old.bytes.now }
+    ensures wrote { let f = figures.now in Wrote out.old (arrangement_rows f.national f.site f.roof item) out.new }
     ensures upper_bound { out.new.at ≤ out.old.at + 8448 }
 {
-    let kind = kind_of(shape);
-    let count = span_count(shape);
-    let last = last_code(kind, site.situation, count);
-    let mut code: u8 = 0;
-    while code < last {
-        code += 1;
-        list_code(
-            national, site, shape, spans, kind, count, item, code, numbers, out,
-        );
+    let codes = RoofCodes::of(figures.roof.shape, figures.site.situation);
+    for code in 1..=codes.last() {
+        list_code(out, figures, codes, item, code, numbers);
     }
 }
 
 // Writes the rows of a roof.
 pub fn list_roof(
-    national: National,
-    site: Site,
-    roof: Roof,
+    out: &mut Writer,
+    figures: &AcceptedFigures,
     item: u32,
     numbers: &mut [u32; NUMBERS],
-    out: &mut Writer,
 )
-    requires { FiguresIn national site roof × (out.old.at + 8624 ≤ length out.old.bytes.now) }
-    ensures wrote { Wrote out.old (roof_rows national site roof item) out.new }
+    requires { out.old.at + 8624 ≤ length out.old.bytes.now }
+    ensures wrote { let f = figures.now in Wrote out.old (roof_rows f.national f.site f.roof item) out.new }
     ensures upper_bound { out.new.at ≤ out.old.at + 8624 }
 {
-    let shape = roof.shape;
-    list_codes(national, site, shape, &roof.spans, item, numbers, out);
-    list_forces(site, shape, item, out);
+    list_codes(out, figures, item, numbers);
+    list_forces(out, figures.sited(), item);
 }

@@ -2,44 +2,33 @@
 #![tactic(auto)]
 
 ghost use Rattle.std.specs.Prelude.{◌≡◌};
+ghost use Rattle.figures.specs.Refusal.{number_in};
 ghost use Rattle.figures.specs.RoofRules.{shape_refusal, roof_refusal};
 
-use figures::{Roof, SPAN_NUMBERS, Shape};
+use figures::{Refusal, Roof, Shape, Spans};
 use kind_rules::{
-    cylindrical_refusal, monopitch_refusal, multi_span_refusal, pitched_refusal, projection_refusal,
+    check_cylindrical, check_monopitch, check_multi_span, check_pitched, check_projection,
 };
-use lower_rules::abutting_refusal;
+use lower_rules::check_abutting;
 
-// The number of the first value rule that a shape with its slopes breaks, 0 where it breaks none.
-pub fn shape_refusal(shape: Shape, spans: &[u32; SPAN_NUMBERS]) -> u8
-    ensures { result ≡ shape_refusal shape spans.now }
+// The first value rule that a shape with its slopes breaks.
+#[tactic(auto, unfolding(figures::specs::RoofRules::shape_refusal))]
+pub fn check_shape(shape: Shape, spans: &Spans) -> Result<(), Refusal>
+    ensures { number_in result ≡ shape_refusal shape spans.now }
 {
     match shape {
-        Shape::Monopitch { slope, guard } => monopitch_refusal(slope, guard),
-        Shape::Pitched {
-            left,
-            right,
-            left_guard,
-            right_guard,
-        } => pitched_refusal(left, right, left_guard, right_guard),
-        Shape::MultiSpan { count, drifts } => multi_span_refusal(count, drifts, spans),
-        Shape::Cylindrical { rise, span } => cylindrical_refusal(rise, span),
-        Shape::Abutting {
-            b1,
-            b2,
-            h,
-            slope,
-            guard,
-            stepped,
-        } => abutting_refusal(b1, b2, h, slope, guard, stepped),
-        Shape::Projection { h, left, right } => projection_refusal(h, left, right),
+        Shape::Monopitch(slope) => check_monopitch(slope),
+        Shape::Pitched { left, right } => check_pitched(left, right),
+        Shape::MultiSpan { count, drifts } => check_multi_span(count, drifts, spans),
+        Shape::Cylindrical(arch) => check_cylindrical(arch),
+        Shape::Abutting(roof) => check_abutting(roof),
+        Shape::Projection(roof) => check_projection(roof),
     }
 }
 
 // The same of a roof.
-pub fn roof_refusal(roof: Roof) -> u8
-    ensures { result ≡ roof_refusal roof }
+pub fn check_roof(roof: &Roof) -> Result<(), Refusal>
+    ensures { number_in result ≡ roof_refusal roof.now }
 {
-    let shape = roof.shape;
-    shape_refusal(shape, &roof.spans)
+    check_shape(roof.shape, &roof.spans)
 }

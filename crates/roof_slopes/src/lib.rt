@@ -3,51 +3,18 @@
 
 ghost use Rattle.std.specs.Prelude.{◌≡◌};
 ghost use Rattle.figures.specs.Slopes.{slope_at};
-ghost use Rattle.roof_slopes.specs.Slopes.{slope_means};
 
-use figures::{Shape, Slope};
-
-// A slope of a roof with its guard, or none of that number.
-#[derive(Clone, Copy)]
-pub enum RoofSlope {
-    Found { slope: Slope, guard: u8 },
-    Missing,
-}
+use figures::{GuardedSlope, Shape};
 
 // The slope of a roof by its number: 1 left or only, 2 right. Kinds 2 and 3 alone have slopes here.
-pub fn slope_of(shape: Shape, number: u8) -> RoofSlope
-    ensures { slope_means result ≡ slope_at shape number }
+#[tactic(auto, unfolding(figures::specs::Slopes::slope_at))]
+pub fn slope_of(shape: Shape, number: u8) -> Option<GuardedSlope>
+    ensures { result ≡ slope_at shape number }
 {
-    match shape {
-        Shape::Monopitch { slope, guard } => {
-            if number == 1 {
-                return RoofSlope::Found { slope, guard };
-            }
-            RoofSlope::Missing
-        }
-        Shape::Pitched {
-            left,
-            right,
-            left_guard,
-            right_guard,
-        } => {
-            if number == 1 {
-                return RoofSlope::Found {
-                    slope: left,
-                    guard: left_guard,
-                };
-            }
-            if number == 2 {
-                return RoofSlope::Found {
-                    slope: right,
-                    guard: right_guard,
-                };
-            }
-            RoofSlope::Missing
-        }
-        Shape::MultiSpan { .. } => RoofSlope::Missing,
-        Shape::Cylindrical { .. } => RoofSlope::Missing,
-        Shape::Abutting { .. } => RoofSlope::Missing,
-        Shape::Projection { .. } => RoofSlope::Missing,
+    match (shape, number) {
+        (Shape::Monopitch(slope), 1) => Some(slope),
+        (Shape::Pitched { left, .. }, 1) => Some(left),
+        (Shape::Pitched { right, .. }, 2) => Some(right),
+        _ => None,
     }
 }

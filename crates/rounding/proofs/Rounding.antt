@@ -1,8 +1,9 @@
 -- What rounding up gives: the least whole number not below the exact value, which keeps the order of what is rounded.
 use mathlib.Core.Path.{◌≡◌, sym, ap}
-use Prim.Native.Nat.{ℕ, ◌+◌, ◌-◌, ◌*◌, ◌≤◌, ◌<◌}
+use Prim.Native.Nat.{ℕ, ◌+◌, ◌-◌, ◌*◌, ◌/◌, ◌%◌, ◌≤◌, ◌<◌, min}
 use native.Mathlib.Nat.{div-zero, div-mul-le_self, lt-div-mul-add, le_of_mul-le-mul_left, le_of_mul-le-mul_right, lt_of_mul-lt-mul_right, mul-le-mul_left, mul-le-mul_right, mul-pos}
 use native.Mathlib.Omega.{arith}
+use Rattle.std.proofs.lemmas.Grind.{div_ceil_times}
 use Rattle.rounding.specs.Fraction.{Fraction, over, AtMost, Under, Below, Same, Close}
 use Rattle.rounding.specs.Up.{ceil_div, rounded_up, Smallest}
 
@@ -34,6 +35,12 @@ unique n d r h p q =
 -- Nothing is rounded where the quotient is whole, and 0 is given where there is none.
 pub whole : (n d r : ℕ) → 0 < d → n ≡ r * d → ceil_div n d ≡ r
 whole n d r h p = sym (unique n d r h (omega arith) (omega arith))
+
+-- The quotient, and one more where a remainder is left: what `div_ceil` of a number gives.
+pub quotient_up : (n d : ℕ) → 0 < d → n / d + min 1 (n % d) ≡ ceil_div n d
+quotient_up n d h =
+    let t = div_ceil_times n d h in
+    unique n d (n / d + min 1 (n % d)) h t.0 t.1
 
 pub by_zero : (n : ℕ) → ceil_div n 0 ≡ 0
 unfolding ceil_div

@@ -2,13 +2,13 @@
 // divides a load: a load rounded up is the least whole number that reaches it, found by halving an interval.
 #![tactic(auto)]
 
+mod extent;
 mod force;
-mod roof;
-mod station;
+mod load_case;
 
-pub use force::{NO_FORCE, guard_force, overhang};
-pub use roof::{roof_end, segment_at, segment_count};
+pub use extent::roof_end;
+pub use force::{guard_force, overhang};
+pub use load_case::LoadCase;
 pub use second_codes::exists;
-pub use second_loads::{Ground, TENTHS, WHOLE, ground_of, load_on};
+pub use second_loads::{Ground, TENTHS, WHOLE};
 pub use second_numbers::Segment;
-pub use station::{apart, load_read};

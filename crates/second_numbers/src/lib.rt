@@ -1,18 +1,15 @@
-// What the second calculation reckons with: whole numbers of 256 bits, sums of figures, the sine of a pitch, shape
-// coefficients as exact fractions, and the segments that have them.
+// What the second calculation reckons with: whole numbers of 256 bits, halving, exact fractions, the sine of a pitch, and the
+// segments that a roof's load has.
 #![tactic(auto)]
 
-mod coefficient;
-mod figure;
-mod number;
+mod halving;
+mod ratio;
 mod segment;
-mod series;
+mod sines;
+mod wide;
 
-pub use coefficient::{
-    EIGHT_TENTHS, NOTHING, Ratio, at_projection, by_sliding, by_wind, halved, hundredths,
-    in_valley, on_arch, on_slope, smaller,
-};
-pub use figure::{difference, multiple, quarters, sum};
-pub use number::{least, not_above, plus, times, whole};
-pub use segment::{Segment, along, even, holds, uncut};
-pub use series::sine;
+pub use halving::least;
+pub use ratio::Ratio;
+pub use segment::{Segment, quarters};
+pub use sines::sine;
+pub use wide::Wide;

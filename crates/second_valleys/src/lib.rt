@@ -1,65 +1,51 @@
 // The second calculation, kind 9: exceptional drifts in valleys, by Annex B.
 #![tactic(auto)]
 
-ghost use Rattle.std.specs.Prelude.{◌≤◌};
+ghost use Rattle.std.specs.Prelude.{◌<◌};
 
-use figures::SPAN_NUMBERS;
-use second_numbers::{NOTHING, Ratio, Segment, even, multiple, smaller, sum, uncut};
+use figures::Spans;
+use second_numbers::{Ratio, Segment};
 use second_slopes::slope_start;
 
 // Bare, up to the valley, down from it, bare.
 pub const DRIFT_SEGMENTS: usize = 4;
 
-// The valley of a drift's code, from 1 at the left.
+// The index of the valley of a drift's code, from 0 at the left.
 fn valley_of(code: u8) -> usize
-    ensures { (1 ≤ result) × (result ≤ 15) }
+    ensures { result < 15 }
 {
     match code {
-        31..=45 => (code - 30) as usize,
-        _ => 1,
+        31..=45 => usize::from(code - 31),
+        _ => 0,
     }
 }
 
-// At the valley: the smallest of 2h/sk, 2 × b3/(ls1 + ls2) and 5, which times sk are the three loads of A2.
-fn at_valley(h: u32, b3: u32, widths: u32, sk: u32) -> Ratio {
-    let depth = Ratio {
-        num: multiple(h, 2),
-        den: sk,
-    };
-    let length = Ratio {
-        num: multiple(b3, 2),
-        den: widths,
-    };
-    smaller(smaller(depth, length), Ratio { num: 5, den: 1 })
-}
-
-// The coefficient at a valley from its two numbers, behind those of 32 slopes, and from the widths of the slopes that meet
-// there, the second number of each.
-fn peak(spans: &[u32; SPAN_NUMBERS], valley: usize, sk: u32) -> Ratio
-    requires { (1 ≤ valley) × (valley ≤ 15) }
+// The coefficient at a valley: the smallest of 2h/sk, 2 × b3/(ls1 + ls2) and 5, which times sk are the three loads of A2. The slopes
+// that meet there have the widths ls1 and ls2.
+fn peak(spans: &Spans, valley: usize, sk: u32) -> Ratio
+    requires { valley < 15 }
 {
-    let left = spans[4 * valley - 1];
-    let right = spans[4 * valley + 1];
-    at_valley(
-        spans[62 + 2 * valley],
-        spans[63 + 2 * valley],
-        sum(left, right),
-        sk,
-    )
+    let drift = spans.valleys[valley];
+    let left = spans.slopes[2 * valley + 1];
+    let right = spans.slopes[2 * valley + 2];
+    let depth = Ratio::new(drift.h.saturating_mul(2), sk);
+    let length = Ratio::new(
+        drift.b3.saturating_mul(2),
+        left.width.saturating_add(right.width),
+    );
+    depth.min(length).min(Ratio::new(5, 1))
 }
 
 // The segment at an index, of a roof of so many slopes: the drift falls to 0 at both ridges, and nothing lies elsewhere.
-pub fn in_drift(spans: &[u32; SPAN_NUMBERS], slopes: usize, code: u8, sk: u32, i: usize) -> Segment
-    requires { slopes ≤ 32 }
-{
+pub fn in_drift(spans: &Spans, slopes: usize, code: u8, sk: u32, i: usize) -> Segment {
     let valley = valley_of(code);
-    let left_ridge = slope_start(spans, 2 * valley - 1);
-    let bottom = slope_start(spans, 2 * valley);
-    let right_ridge = slope_start(spans, 2 * valley + 1);
+    let left_ridge = slope_start(spans, 2 * valley + 1);
+    let bottom = slope_start(spans, 2 * valley + 2);
+    let right_ridge = slope_start(spans, 2 * valley + 3);
     match i {
-        0 => even(0, left_ridge, NOTHING),
-        1 => uncut(left_ridge, bottom, NOTHING, peak(spans, valley, sk)),
-        2 => uncut(bottom, right_ridge, peak(spans, valley, sk), NOTHING),
-        _ => even(right_ridge, slope_start(spans, slopes), NOTHING),
+        0 => Segment::even(0, left_ridge, Ratio::NOTHING),
+        1 => Segment::uncut(left_ridge, bottom, Ratio::NOTHING, peak(spans, valley, sk)),
+        2 => Segment::uncut(bottom, right_ridge, peak(spans, valley, sk), Ratio::NOTHING),
+        _ => Segment::even(right_ridge, slope_start(spans, slopes), Ratio::NOTHING),
     }
 }

@@ -1,15 +1,15 @@
--- What holds of a shape holds of what it is known to be: its bounds, and an index below its count.
+-- What the shape of accepted figures is known to be keeps its bounds, and an index below its count.
 use Prim.Native.Nat.{ℕ, ◌<◌}
 use mathlib.Core.Path.{◌≡◌, subst}
-use mathlib.Core.List.{List}
 use Rattle.figures.specs.Bounds.{ShapeIn}
+use Rattle.figures.specs.declared.accepted_figures.AcceptedFigures.{AcceptedFigures}
 use Rattle.figures.specs.declared.roof.Shape.{Shape}
+use Rattle.figures.proofs.Accepted.{shape_in}
 use Rattle.standard.specs.Arrangements.{count_in}
-use Rattle.figures.specs.declared.national.National.{National}
 
-module _ {sh known : Shape} (e : sh ≡ known) where
-  pub known_in : (l : List ℕ) → ShapeIn sh l → ShapeIn known l
-  known_in l ok = subst (λ (s : Shape). ShapeIn s l) e ok
+module _ (f : AcceptedFigures) {known : Shape} (e : f.roof.shape ≡ known) where
+  pub known_in : ShapeIn known f.roof.spans
+  known_in = subst (λ (s : Shape). ShapeIn s f.roof.spans) e (shape_in _ _ f.accepted.roof)
 
-  pub known_index : (national : National) (code i : ℕ) → i < count_in national sh code → i < count_in national known code
-  known_index national code i lt = subst (λ (s : Shape). i < count_in national s code) e lt
+  pub known_index : (code i : ℕ) → i < count_in f.national f.roof.shape code → i < count_in f.national known code
+  known_index code i lt = subst (λ (s : Shape). i < count_in f.national s code) e lt

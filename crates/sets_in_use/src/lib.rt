@@ -1,64 +1,58 @@
 // The national set that a job uses, by its day, in an accepted store; and refusal 19.
 #![tactic(auto)]
 
-ghost use Rattle.std.specs.Prelude.{◌≡◌, ◌≤◌, length};
+ghost use Rattle.std.specs.Prelude.{◌≡◌, Option};
 ghost use Rattle.figures.specs.Bounds.{NationalIn};
-ghost use Rattle.figures.specs.Store.{set_count, set_start, set_at, store_refusal, last_begun, begun_number, day_refusal, begun_figures, figures_in_use};
+ghost use Rattle.figures.specs.Refusal.{number_in};
+ghost use Rattle.figures.specs.Store.{set_count, set_at, last_begun, set_in_use, day_refusal, figures_in_use};
 
-use figures::{JobDay, National, recommended};
-use national_sets::{set_at, to_usize};
+use figures::{National, Refusal};
+use national_sets::Store;
 
-// A dated job that no set has begun for, by document 02's number.
-const NONE_BEGUN: u8 = 19;
-
-// The number of a day on which no set has begun, 0 where one has. Sets stand in the order of their days, so the first one tells.
-fn begun_number(store: &[u32], day: u32) -> u8
-    requires { store_refusal store.now ≡ 0 }
-    ensures { result ≡ begun_number (last_begun (set_at store.now) day (set_count store.now)) }
+// The figures of the last set that has begun on a day, from the last set back as the definition counts: a chain would need a lemma that
+// says the same.
+#[tactic(auto, unfolding(figures::specs::Store::last_begun))]
+fn last_begun(store: Store, day: u16) -> Option<National>
+    ensures { result ≡ last_begun (set_at store.entry.numbers.now) day (set_count store.entry.numbers.now) }
 {
-    if store[0] == 0 {
-        return NONE_BEGUN;
-    }
-    if day < store[1] {
-        return NONE_BEGUN;
-    }
-    0
-}
-
-// The refusal of a job's day, 0 for none.
-pub fn day_refusal(store: &[u32], job: JobDay) -> u8
-    requires { store_refusal store.now ≡ 0 }
-    ensures { result ≡ day_refusal store.now job }
-{
-    match job {
-        JobDay::Undated => 0,
-        JobDay::Dated(day) => begun_number(store, day as u32),
-    }
-}
-
-// The figures of the last of the first count sets that has begun on a day.
-fn last_begun(store: &[u32], count: usize, day: u32) -> National
-    requires { set_start count ≤ length store.now }
-    ensures { result ≡ begun_figures (last_begun (set_at store.now) day count) }
-{
-    let mut i = count;
-    while 0 < i {
-        let set = set_at(store, i - 1);
-        if set.day <= day {
-            return set.figures;
+    for i in (0..store.count()).rev() {
+        let set = store.set(i);
+        if set.day <= u32::from(day) {
+            return Some(set.figures);
         }
-        i -= 1;
     }
-    recommended()
+    None
+}
+
+// The figures that a job uses, where a set has begun for it: the recommended ones without a day.
+#[tactic(auto, unfolding(figures::specs::Store::set_in_use))]
+fn set_in_use(store: Store, day: Option<u16>) -> Option<National>
+    ensures { result ≡ set_in_use store.entry.numbers.now day }
+{
+    match day {
+        None => Some(National::recommended()),
+        Some(day) => last_begun(store, day),
+    }
+}
+
+// Refuses a day on which no set has begun. Sets stand in the order of their days, so the first one tells.
+#[tactic(auto, unfolding(figures::specs::Store::day_refusal, figures::specs::Store::set_in_use), using(crate::proofs::Begun::by_the_first))]
+pub fn check_day(store: Store, day: Option<u16>) -> Result<(), Refusal>
+    ensures { number_in result ≡ day_refusal store.entry.numbers.now day }
+{
+    match day {
+        Some(day) if store.count() == 0 || u32::from(day) < store.set(0).day => {
+            Err(Refusal::NoSetBegun)
+        }
+        _ => Ok(()),
+    }
 }
 
 // The national figures that a job uses: those of the last set begun, and the recommended ones without a day.
-pub fn figures_for(store: &[u32], job: JobDay) -> National
-    requires { store_refusal store.now ≡ 0 }
-    ensures { (result ≡ figures_in_use store.now job) × NationalIn result }
+#[tactic(auto, unfolding(figures::specs::Store::figures_in_use))]
+pub fn figures_for(store: Store, day: Option<u16>) -> National
+    ensures figures { result ≡ figures_in_use store.entry.numbers.now day }
+    ensures ranges { NationalIn result }
 {
-    match job {
-        JobDay::Undated => recommended(),
-        JobDay::Dated(day) => last_begun(store, to_usize(store[0]), day as u32),
-    }
+    set_in_use(store, day).unwrap_or_else(National::recommended)
 }

@@ -13,12 +13,11 @@ use Rattle.figures.specs.Rules.{first_of}
 use Rattle.figures.specs.SiteRules.{site_refusal}
 use Rattle.figures.specs.Store.{set_sound, sets_sound, store_refusal, last_begun, set_in_use, day_refusal}
 use Rattle.item_rules.specs.Rules.{job_refusal}
-use Rattle.item_forms.specs.Forms.{sized}
 use Rattle.items.specs.Items.{by_kind, content}
 use Rattle.map_sites.specs.Sites.{site_data_refusal}
 use Rattle.pairs.specs.Pairs.{Answer, accepted, refused, pair_number, in_turn, pairs_verdict}
 use Rattle.roof_items.specs.RoofItems.{monopitch_item, lower_item}
-use Rattle.site_items.specs.SiteItems.{day_at, site_sized, site_item}
+use Rattle.site_items.specs.SiteItems.{day_at, site_item}
 use Rattle.sheet.specs.Sheet.{item_number, rules_verdict, store_verdict, sheet_verdict}
 use Rattle.upper_items.specs.Uppers.{upper}
 use Rattle.upper_rules.specs.UpperRules.{upper_number, circle_number, uppers_verdict}
@@ -57,7 +56,7 @@ pub own_rules_first :
     (stepped 2 (shed 1) ∷ stepped 0 (shed 1) ∷ stepped 1 (shed 1) ∷ stepped 0 (shed 0) ∷ stepped 1 (shed 0) ∷ stepped 3 (255 ∷ []) ∷ [])
     ≡ (accepted 3 ∷ refused 16 1 ∷ refused 17 1 ∷ refused 8 2 ∷ refused 8 2 ∷ refused 3 2 ∷ [])
 unfolding sheet_verdict store_verdict store_refusal sets_sound rules_verdict pairs_verdict in_turn pair_number item_number uppers_verdict upper_number circle_number comes_back meets upper content by_kind
-    site_item site_sized day_at monopitch_item lower_item sized job_refusal day_refusal set_in_use site_data_refusal site_refusal shape_refusal first_of
+    site_item day_at monopitch_item lower_item job_refusal day_refusal set_in_use site_data_refusal site_refusal shape_refusal first_of
 own_rules_first = refl
 
 -- a site alone with a job day of 100, and a store whose one set begins on a day
@@ -75,5 +74,5 @@ pub by_its_day :
     ∷ sheet_verdict (beginning 101) (ceiling_of Terminal) (dated 0) ∷ sheet_verdict (beginning 100) (ceiling_of Desk) (dated 0) ∷ sheet_verdict empty (ceiling_of Terminal) (dated 255) ∷ [])
     ≡ (refused 18 0 ∷ refused 18 0 ∷ refused 19 0 ∷ refused 19 0 ∷ accepted 1 ∷ refused 7 0 ∷ [])
 unfolding sheet_verdict store_verdict store_refusal sets_sound set_sound rules_verdict pairs_verdict in_turn pair_number item_number uppers_verdict upper_number circle_number comes_back meets
-    upper content by_kind site_item site_sized day_at job_refusal day_refusal set_in_use last_begun site_data_refusal site_refusal first_of
+    upper content by_kind site_item day_at job_refusal day_refusal set_in_use last_begun site_data_refusal site_refusal first_of
 by_its_day = refl

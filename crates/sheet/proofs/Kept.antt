@@ -1,6 +1,6 @@
 -- What an accepted sheet keeps: its items lie within it and none is empty, and its upper items are sound.
 use Prim.Native.Nat.{ℕ, ◌+◌, ◌-◌, ◌≤◌, ◌<◌}
-use mathlib.Core.Path.{◌≡◌, refl, subst, sym, ◌∙◌}
+use mathlib.Core.Path.{◌≡◌, refl, subst, sym, ap, ◌∙◌}
 use mathlib.Core.Bool.{Bool, true, false, cond}
 use mathlib.Core.List.{List, []}
 use mathlib.Core.Logic.{⊎_elim}
@@ -11,13 +11,16 @@ use native.Mathlib.Nat.{eq-zero-or-pos}
 use native.Mathlib.Omega.{arith}
 use Rattle.figures.specs.Store.{set_count, store_refusal}
 use Rattle.items.specs.Items.{content}
+use Rattle.std.specs.Prelude.{Result, Ok, Err}
+use Rattle.figures.specs.declared.refusal.Refusal.{Refusal}
+use Rattle.figures.specs.Refusal.{number_of}
+use Rattle.figures.proofs.Numbers.{numbered}
 use Rattle.item_forms.specs.declared.Item.{Item}
-use Rattle.item_forms.specs.declared.Item.TheVariants.{SiteItem, RoofItem, LowerItem, Malformed}
-use Rattle.item_rules.specs.Rules.{rule_number, rule_of}
+use Rattle.item_forms.specs.declared.Item.TheVariants.{SiteItem, RoofItem, LowerItem}
+use Rattle.item_rules.specs.Rules.{rule_by, rule_of}
 use Rattle.ceilings.specs.declared.Ceiling.{Ceiling}
 use Rattle.pairs.specs.Pairs.{Answer, accepted, refused, count, offset, size, in_turn, pairs_verdict, and_then, part, verdict_means, verdict_count}
-use Rattle.pairs.specs.declared.Verdict.{Verdict}
-use Rattle.pairs.specs.declared.Verdict.TheVariants.{Accepted, Refused}
+use Rattle.pairs.specs.declared.turns.Refused.{Refused}
 use Rattle.pairs.proofs.Kept.{PairsKept, pairs_kept, parts_in, not_refused, passed, both_accepted, one_refused, named_in, pair_named}
 use Rattle.order.specs.Order.{Ordered, up_to}
 use Rattle.order.proofs.Listing.{in_turn_lem}
@@ -26,19 +29,19 @@ use Rattle.upper_items.specs.Uppers.{item_at, upper, stepped_in, roof_order}
 use Rattle.upper_items.proofs.Lowers.{none_above}
 use Rattle.upper_rules.specs.UpperRules.{uppers_verdict}
 use Rattle.upper_rules.proofs.Kept.{UppersKept, uppers_kept, upper_named, roofs_ordered}
-use Rattle.sheet.specs.Sheet.{ItemIn, ItemOf, Place, item_number, rules_verdict, store_verdict, sheet_verdict, place_by, place}
+use Rattle.sheet.specs.Sheet.{ItemIn, accepts, Place, item_number, rules_verdict, store_verdict, sheet_verdict, place_by, place}
 
 same_value : {A : Type 0} {a b : A} → accepted a ≡ accepted b → a ≡ b
 same_value e = cc
 
-no_bytes : (store : List ℕ) (i : ℕ) (p : List ℕ) → p ≡ [] → rule_of store i (content p) ≡ 0 → ⊥
+no_bytes : (store : List ℕ) (i : ℕ) (p : List ℕ) → p ≡ [] → rule_of store i p ≡ 0 → ⊥
 unfolding content
-no_bytes store i p z e = let f : rule_of store i (content []) ≡ 0 = rw z at e in omega arith
+no_bytes store i p z e = let f : rule_of store i [] ≡ 0 = rw z at e in omega arith
 
 -- what an item keeps that breaks no rule: its bytes are some
 some : (store s : List ℕ) (i : ℕ) → item_number store s i ≡ 0 → 1 ≤ size s i
 unfolding item_number content
-some store s i e = ⊎_elim (λ z. let f : rule_of store i (content (part s i)) ≡ 0 = e in absurd (no_bytes store i (part s i) (rw z) f)) (λ h. h) (eq-zero-or-pos (size s i))
+some store s i e = ⊎_elim (λ z. let f : rule_of store i (part s i) ≡ 0 = e in absurd (no_bytes store i (part s i) (rw z) f)) (λ h. h) (eq-zero-or-pos (size s i))
 
 -- an accepted store, and the item that a refused one names
 store_passed : (store : List ℕ) (x : ℕ) → store_verdict store ≡ accepted x → store_refusal store ≡ 0
@@ -78,10 +81,15 @@ sheet_kept store ceiling s n e =
       uppers = rw u.0 u.1;
     }
 
+-- an accepted sheet, by its test
+pub accepted_is : (v : Answer ℕ) (n : ℕ) → accepts v n ≡ true → v ≡ accepted n
+accepted_is (accepted m) n e = ap accepted (eqb-true m n e)
+accepted_is (refused k i) n e = let z : ◌≡◌ {A = ℕ} 0 1 = cc in absurd (omega arith)
+
 -- an answer of `verdict` counts no more items than the ceiling has
-pub few_counted : (store : List ℕ) (ceiling : Ceiling) (s : List ℕ) (v : Verdict) → verdict_means v ≡ sheet_verdict store ceiling s → verdict_count v ≤ ceiling.items
-few_counted store ceiling s (Refused k i) e = omega arith
-few_counted store ceiling s (Accepted n) e = (sheet_kept store ceiling s n (sym e)).pairs.fit.items
+pub few_counted : (store : List ℕ) (ceiling : Ceiling) (s : List ℕ) (v : Result ℕ Refused) → verdict_means v ≡ sheet_verdict store ceiling s → verdict_count v ≤ ceiling.items
+few_counted store ceiling s (Err why) e = omega arith
+few_counted store ceiling s (Ok n) e = (sheet_kept store ceiling s n (sym e)).pairs.fit.items
 
 -- each item of an accepted sheet lies in it and breaks no rule
 pub item_in : (store : List ℕ) (ceiling : Ceiling) (s : List ℕ) (n : ℕ) → sheet_verdict store ceiling s ≡ accepted n → (i : ℕ) → i < n → ItemIn s i
@@ -105,7 +113,7 @@ placed_by store ceiling s x p (accepted n) q e =
     let t = not_refused (ltb x n) (accepted (record { start = offset s x; bytes = size s x })) 12 x p e in
     record { items = n; verdict = q; below = ltb-true x n t.0; there = same_value t.1 }
 
-placed : (store : List ℕ) (ceiling : Ceiling) (s : List ℕ) (x : ℕ) (p : Place) → place store ceiling s x ≡ accepted p → Placed store ceiling s x p
+pub placed : (store : List ℕ) (ceiling : Ceiling) (s : List ℕ) (x : ℕ) (p : Place) → place store ceiling s x ≡ accepted p → Placed store ceiling s x p
 unfolding place
 placed store ceiling s x p e = placed_by store ceiling s x p (sheet_verdict store ceiling s) refl e
 
@@ -119,12 +127,6 @@ located store ceiling s x p e =
     let d = placed store ceiling s x p e in
     let k = sheet_kept store ceiling s d.items d.verdict in
     subst (InSheet s) d.there (record { within = (k.pairs.each x d.below).within; some = k.some x d.below })
-
--- it is one of an accepted sheet's items
-pub located_of : (store : List ℕ) (ceiling : Ceiling) (s : List ℕ) (x : ℕ) (p : Place) → place store ceiling s x ≡ accepted p → ItemOf s x
-located_of store ceiling s x p e =
-    let d = placed store ceiling s x p e in
-    record { store = store; ceiling = ceiling; items = d.items; verdict = d.verdict; below = d.below }
 
 -- and it was read with an accepted store
 pub located_with : (store : List ℕ) (ceiling : Ceiling) (s : List ℕ) (x : ℕ) (p : Place) → place store ceiling s x ≡ accepted p → store_refusal store ≡ 0
@@ -150,13 +152,13 @@ module _ (store s : List ℕ) (n : ℕ) where
   pub first_site : (m : ℕ) → 1 ≤ n → in_turn (item_number store s) n 0 n ≡ accepted m → is_lower (item_at s 0) ≡ false
   unfolding item_number
   first_site m h e =
-      by_item (item_at s 0) (content (part s 0)).spans ((passed (item_number store s) n 0 n m e).1 0 (omega arith) (omega arith))
+      by_item (item_at s 0) ((passed (item_number store s) n 0 n m e).1 0 (omega arith) (omega arith))
     where
-      by_item : (x : Item) (l : List ℕ) → rule_number store 0 x l ≡ 0 → is_lower x ≡ false
-      by_item (SiteItem fields) l z = refl
-      by_item (RoofItem shape) l z = refl
-      by_item (LowerItem lower) l z = absurd (omega arith)
-      by_item (Malformed number) l z = refl
+      by_item : (x : Result Item Refusal) → rule_by store 0 (part s 0) x ≡ 0 → is_lower x ≡ false
+      by_item (Ok (SiteItem fields)) z = refl
+      by_item (Ok (RoofItem shape)) z = refl
+      by_item (Ok (LowerItem lower)) z = absurd (omega arith)
+      by_item (Err refusal) z = refl
 
   pub items_passed : (m : ℕ) → in_turn (item_number store s) n 0 n ≡ accepted m → uppers_verdict s n ≡ and_then (in_turn (item_number store s) n 0 n) (uppers_verdict s n)
   items_passed m e = rw e
@@ -172,13 +174,21 @@ module _ (store : List ℕ) (ceiling : Ceiling) (s : List ℕ) where
   unfolding rules_verdict
   rules_items n e = rw (e, (pairs_kept ceiling s n e).counted)
 
-  pub store_refused : (k : ℕ) → k ≡ store_refusal store → (k ≡ 0 → ⊥) → refused k 0 ≡ sheet_verdict store ceiling s
-  unfolding sheet_verdict store_verdict
-  store_refused k e h = rw (← e, ne_eqb k 0 h)
-
   pub store_accepted : store_refusal store ≡ 0 → rules_verdict store ceiling s ≡ sheet_verdict store ceiling s
   unfolding sheet_verdict store_verdict
   store_accepted h = rw h
+
+  -- a store, pairs and items that break no rule
+  pub all_accepted :
+      (n m : ℕ) → store_refusal store ≡ 0 → pairs_verdict ceiling s ≡ accepted n
+      → accepted m ≡ and_then (in_turn (item_number store s) n 0 n) (uppers_verdict s n) → sheet_verdict store ceiling s ≡ accepted n
+  all_accepted n m k p e =
+      let v : sheet_verdict store ceiling s ≡ accepted m = sym (e ∙ (rules_items n p ∙ store_accepted k)) in
+      v ∙ ap accepted ((sheet_kept store ceiling s m v).pairs.counted ∙ sym (pairs_kept ceiling s n p).counted)
+
+  pub store_refused : (refusal : Refusal) → number_of refusal ≡ store_refusal store → refused (number_of refusal) 0 ≡ sheet_verdict store ceiling s
+  unfolding sheet_verdict store_verdict
+  store_refused refusal e = rw (← e, ne_eqb (number_of refusal) 0 (λ z. omega (arith, numbered refusal)))
 
   module _ (x : ℕ) where
     pub place_refused : (k i : ℕ) → sheet_verdict store ceiling s ≡ refused k i → refused k i ≡ place store ceiling s x

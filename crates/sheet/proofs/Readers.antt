@@ -3,23 +3,26 @@ use Prim.Native.Nat.{ℕ}
 use mathlib.Core.Bool.{Bool, true, false, cond, ◌&&◌}
 use mathlib.Core.List.{List, []}
 use mathlib.Core.Path.{◌≡◌, refl, sym, ap, ◌∙◌}
+use borrow.Author.Tests.{eq-eqb}
 use lib.ListN.{length}
 use native.Mathlib.Omega.{arith}
 use Rattle.ceilings.proofs.Limits.{Below, below_terminals, lower_fits}
-use Rattle.ceilings.specs.Ceilings.{fits, ceiling_of}
+use Rattle.ceilings.specs.Ceilings.{terminals, fits, ceiling_of}
 use Rattle.ceilings.specs.declared.Caller.{Caller}
 use Rattle.ceilings.specs.declared.Caller.TheVariants.{Terminal, Desk}
 use Rattle.ceilings.specs.declared.Ceiling.{Ceiling}
 use Rattle.figures.specs.Store.{store_refusal}
-use Rattle.pairs.specs.Pairs.{Answer, refused, count, pair_number, in_turn, pairs_verdict, and_then, verdict_means}
+use Rattle.pairs.proofs.Kept.{not_refused}
+use Rattle.pairs.specs.Pairs.{Answer, accepted, refused, count, pair_number, in_turn, pairs_verdict, and_then, verdict_means}
 use Rattle.upper_rules.specs.UpperRules.{uppers_verdict}
-use Rattle.pairs.specs.declared.Verdict.{Verdict}
-use Rattle.pairs.specs.declared.Verdict.TheVariants.{Accepted, Refused}
+use Rattle.std.specs.Prelude.{Result, Ok, Err}
+use Rattle.figures.specs.Refusal.{number_of}
+use Rattle.figures.proofs.Numbers.{one_number}
+use Rattle.pair_words.specs.declared.Pair.{Pair}
+use Rattle.pairs.specs.declared.turns.Refused.{Refused}
 use Rattle.sheet.proofs.Kept.{store_accepted}
 use Rattle.sheet.specs.Readers.{sheet_inside, Read}
-use Rattle.sheet.specs.Sheet.{Place, item_number, rules_verdict, store_verdict, sheet_verdict, place_by, place, part_at, located_means}
-use Rattle.sheet.specs.declared.reader.Located.{Located}
-use Rattle.sheet.specs.declared.reader.Located.TheVariants.{At, Nowhere}
+use Rattle.sheet.specs.Sheet.{SheetOf, Place, item_number, rules_verdict, store_verdict, sheet_verdict, place_by, place, part_at, located_means}
 
 -- a test in front of an answer, without which the sheet is refused by 1
 abbrev one_unless : {A : Type 0} → Bool → Answer A → Answer A
@@ -54,6 +57,10 @@ module _ (store : List ℕ) (low high : Ceiling) (h : Below low high) (s : List 
   lower_verdict k =
       sym (store_accepted store low s k) ∙ (lower_rules ∙ ap (one_unless (sheet_inside low s)) (store_accepted store high s k))
 
+  -- so what the lower ceiling lets through is accepted under the higher
+  pub higher_accepts : (n : ℕ) → store_refusal store ≡ 0 → sheet_verdict store low s ≡ accepted n → sheet_verdict store high s ≡ accepted n
+  higher_accepts n k e = (not_refused (sheet_inside low s) (sheet_verdict store high s) 1 0 n (sym (lower_verdict k) ∙ e)).1
+
   same_read : (v : Answer ℕ) → sheet_verdict store low s ≡ v → Read store s low v (λ i. place_by v s i) (λ i. part_at (place_by v s i) s)
   unfolding place
   same_read v e =
@@ -87,28 +94,47 @@ one_outside store caller s k e =
     same_read store _ (ceiling_of Terminal) (below_terminals caller) s (refused 1 0) (rw e at (lower_verdict store _ _ (below_terminals caller) s k))
 
 -- an answer of `verdict`, and one of `locate`, by what it says
-one_verdict : (a b : Verdict) → verdict_means a ≡ verdict_means b → a ≡ b
-one_verdict (Accepted m) (Accepted n) e = let z : m ≡ n = cc in rw z
-one_verdict (Accepted m) (Refused k i) e = let z : ◌≡◌ {A = ℕ} 0 1 = cc in absurd (omega arith)
-one_verdict (Refused k i) (Accepted n) e = let z : ◌≡◌ {A = ℕ} 0 1 = cc in absurd (omega arith)
-one_verdict (Refused k i) (Refused l j) e = let z : k ≡ l = cc in let w : i ≡ j = cc in rw (z, w)
+same_refused : (a b : Refused) → number_of a.refusal ≡ number_of b.refusal → a.item ≡ b.item → a ≡ b
+same_refused a b e f =
+    let g : a.refusal ≡ b.refusal = one_number a.refusal b.refusal e in
+    let h : ◌≡◌ {A = Refused} (record { refusal = a.refusal; item = a.item }) b = rw (g, f) in
+    h
 
-one_place : (a b : Located) → located_means a ≡ located_means b → a ≡ b
-one_place (At m n) (At k l) e =
-    let p : ◌≡◌ {A = Place} (record { start = m; bytes = n }) (record { start = k; bytes = l }) = cc in
-    let z : m ≡ k = ap (λ (x : Place). x.start) p in
-    let w : n ≡ l = ap (λ (x : Place). x.bytes) p in
-    rw (z, w)
-one_place (At m n) (Nowhere k i) e = let z : ◌≡◌ {A = ℕ} 0 1 = cc in absurd (omega arith)
-one_place (Nowhere k i) (At m n) e = let z : ◌≡◌ {A = ℕ} 0 1 = cc in absurd (omega arith)
-one_place (Nowhere k i) (Nowhere l j) e = let z : k ≡ l = cc in let w : i ≡ j = cc in rw (z, w)
+one_verdict : (a b : Result ℕ Refused) → verdict_means a ≡ verdict_means b → a ≡ b
+one_verdict (Ok m) (Ok n) e = let z : m ≡ n = cc in rw z
+one_verdict (Ok m) (Err b) e = let z : ◌≡◌ {A = ℕ} 0 1 = cc in absurd (omega arith)
+one_verdict (Err a) (Ok n) e = let z : ◌≡◌ {A = ℕ} 0 1 = cc in absurd (omega arith)
+one_verdict (Err a) (Err b) e =
+    let z : number_of a.refusal ≡ number_of b.refusal = cc in
+    let w : a.item ≡ b.item = cc in
+    ap Err (same_refused a b z w)
+
+one_place : (a b : Result Pair Refused) → located_means a ≡ located_means b → a ≡ b
+one_place (Ok m) (Ok n) e =
+    let p : ◌≡◌ {A = Place} (record { start = m.offset; bytes = m.size }) (record { start = n.offset; bytes = n.size }) = cc in
+    let z : m.offset ≡ n.offset = ap (λ (x : Place). x.start) p in
+    let w : m.size ≡ n.size = ap (λ (x : Place). x.bytes) p in
+    let h : ◌≡◌ {A = Pair} (record { offset = m.offset; size = m.size }) n = rw (z, w) in
+    ap Ok h
+one_place (Ok m) (Err b) e = let z : ◌≡◌ {A = ℕ} 0 1 = cc in absurd (omega arith)
+one_place (Err a) (Ok n) e = let z : ◌≡◌ {A = ℕ} 0 1 = cc in absurd (omega arith)
+one_place (Err a) (Err b) e =
+    let z : number_of a.refusal ≡ number_of b.refusal = cc in
+    let w : a.item ≡ b.item = cc in
+    ap Err (same_refused a b z w)
 
 -- the same of the calls' own answers: what the desk gets is what a terminal gets
 module _ (store s : List ℕ) (e : sheet_inside (ceiling_of Desk) s ≡ true) where
   pub same_verdicts :
-      (d t : Verdict) → verdict_means d ≡ sheet_verdict store (ceiling_of Desk) s → verdict_means t ≡ sheet_verdict store (ceiling_of Terminal) s → d ≡ t
+      (d t : Result ℕ Refused) → verdict_means d ≡ sheet_verdict store (ceiling_of Desk) s → verdict_means t ≡ sheet_verdict store (ceiling_of Terminal) s → d ≡ t
   same_verdicts d t f g = one_verdict d t (f ∙ ((same_inside store s e).verdict ∙ sym g))
 
   pub same_places :
-      (i : ℕ) (d t : Located) → located_means d ≡ place store (ceiling_of Desk) s i → located_means t ≡ place store (ceiling_of Terminal) s i → d ≡ t
+      (i : ℕ) (d t : Result Pair Refused) → located_means d ≡ place store (ceiling_of Desk) s i → located_means t ≡ place store (ceiling_of Terminal) s i → d ≡ t
   same_places i d t f g = one_place d t (f ∙ ((same_inside store s e).places i ∙ sym g))
+
+-- a sheet that a caller's ceiling lets through is accepted
+pub caller_accepts : (store : List ℕ) (caller : Caller) (s : List ℕ) (n : ℕ) → store_refusal store ≡ 0 → sheet_verdict store (ceiling_of caller) s ≡ accepted n → SheetOf store s n
+caller_accepts store caller s n k e =
+    let f : sheet_verdict store terminals s ≡ accepted n = higher_accepts store (ceiling_of caller) terminals (below_terminals caller) s n k e in
+    rw f (eq-eqb n n refl)

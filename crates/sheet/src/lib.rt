@@ -2,9 +2,11 @@
 // word, split and joined. Every call takes any bytes.
 #![tactic(auto)]
 
+mod accepted;
 mod reader;
 
+pub use accepted::Sheet;
 pub use ceilings::Caller;
 pub use pair_words::{Pair, join, split, word};
-pub use pairs::Verdict;
-pub use reader::{Located, item, locate, verdict};
+pub use pairs::Refused;
+pub use reader::{item, locate, verdict};

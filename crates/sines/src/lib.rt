@@ -4,7 +4,7 @@
 ghost use Rattle.std.specs.Prelude.{◌≡◌, ◌≤◌};
 ghost use Rattle.standard.specs.Sine.{sine_entry};
 
-// The sine in millionths, one entry for each tenth of a degree from 0 to 80.0°.
+// The sine in millionths, one entry for each tenth of a degree from 0 to 80.0°: the requirements name a table for it.
 const SINE: [u32; 801] = [
     0, 1745, 3491, 5236, 6981, 8727, 10472, 12217, 13962, 15707, 17452, 19197, 20942, 22687, 24432,
     26177, 27922, 29666, 31411, 33155, 34899, 36644, 38388, 40132, 41876, 43619, 45363, 47106,
@@ -76,9 +76,9 @@ const SINE: [u32; 801] = [
 ];
 
 // The sine of a pitch in tenths of a degree, in millionths.
-pub fn sine(pitch: u32) -> u64
+pub fn sine(pitch: u32) -> u32
     requires { pitch ≤ 800 }
     ensures { result ≡ sine_entry pitch }
 {
-    SINE[pitch as usize] as u64
+    SINE[pitch as usize]
 }

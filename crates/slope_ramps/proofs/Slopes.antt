@@ -1,32 +1,29 @@
 -- The slopes of a multi-span roof: which end is a valley, and what its loads are.
-use Prim.Native.Nat.{ℕ, ◌+◌, ◌-◌, ◌*◌, ◌%◌, ◌<◌}
+use Prim.Native.Nat.{ℕ, zero, suc, ◌≤◌, ◌+◌, ◌-◌, ◌*◌, ◌%◌, ◌<◌}
 use mathlib.Core.Path.{◌≡◌, refl}
-use mathlib.Core.Bool.{Bool, true, false, cond, ◌||◌}
-use mathlib.Core.List.{List}
+use mathlib.Core.Bool.{Bool, true, false, ◌||◌}
 use borrow.Author.Tests.{eqb-true, eqb-false}
+use borrow.Rule.Slice.PartMut.{mid_of}
 use lib.Dec.{eqb}
-use native.Mathlib.Nat.{add_comm}
+use lib.ListN.{length, take, drop}
+use lib.Seq.{take-add}
+use Rattle.std.specs.List.{sum_by}
+use Rattle.std.proofs.lemmas.List.Sums.{sum_by_more, sum_by-append}
 use native.Mathlib.Numerals.{add-one}
 use native.Mathlib.Omega.{arith}
-use Rattle.figures.specs.Bounds.{SlopeIn}
-use Rattle.figures.specs.RoofRules.{slope_of}
-use Rattle.figures.specs.declared.roof.Slope.{Slope}
-use Rattle.standard.specs.Coefficients.{mu1, valley_mu}
+use Rattle.figures.specs.Spans.{flat, slope_of}
+use Rattle.figures.specs.declared.slopes.Spans.{Spans}
 use Rattle.standard.specs.MultiSpan.{own_load, valley_load, multi_span_from, multi_span_to, multi_span, widths}
-use Rattle.standard.specs.Stretch.{load_alone}
-use Rattle.ramps.proofs.Stretches.{made, Made, Part, whole_ramp}
+use Rattle.rounding.specs.Load.{break_load}
+use Rattle.standard.specs.Units.{parts}
+use Rattle.ramps.specs.Ramps.{RoundedStretch, ramp_of}
+use Rattle.ramps.proofs.Stretches.{made, whole_ramp}
 
 -- none of three tests held
 none : (a b c : Bool) → (a || b || c) ≡ false → (a ≡ false) × (b ≡ false) × (c ≡ false)
 none true b c h = let z : ◌≡◌ {A = ℕ} 0 1 = cc in absurd (omega arith)
 none false true c h = let z : ◌≡◌ {A = ℕ} 0 1 = cc in absurd (omega arith)
 none false false c h = (refl, refl, h)
-
--- a slope of the roof and its own load
-pub record Own (factor sk : ℕ) (l : List ℕ) (i : ℕ) (s : Slope) (x : ℕ) : Type 0 where
-  pub slope : s ≡ slope_of l i
-  pub within : SlopeIn s
-  pub load : Part x (load_alone (mu1 s.pitch) factor sk)
 
 module _ (undrifted : Bool) (i count : ℕ) where
   -- the first and the last slope, and every one in code 1
@@ -48,51 +45,56 @@ module _ (undrifted : Bool) (i count : ℕ) where
       let n = none undrifted (eqb i 0) (eqb (i + 1) (2 * count)) h in
       (omega (arith, eqb-false i 0 n.1), eqb-false (i + 1) (2 * count) n.2)
 
-  module _ (factor sk : ℕ) (l : List ℕ) (s : Slope) (x : ℕ) (own : Own factor sk l i s x) where
+  module _ (factor sk : ℕ) (l : Spans) (x y : ℕ) where
     abbrev From : ℕ → Type 0
-    From x = Part x (multi_span_from factor sk l undrifted i)
+    From x = x ≡ break_load parts (multi_span_from factor sk l undrifted i)
 
     abbrev To : ℕ → Type 0
-    To x = Part x (multi_span_to factor sk l count undrifted i)
+    To x = x ≡ break_load parts (multi_span_to factor sk l count undrifted i)
 
-    abbrev IsRamp : ℕ → ℕ → Type 0
-    IsRamp from to = Made (made (4 * s.width) 0 (4 * s.width) from to) (multi_span factor sk l count undrifted i)
+    abbrev IsRamp : RoundedStretch → ℕ → ℕ → Type 0
+    IsRamp r from to =
+        r ≡ made (4 * (slope_of l i).width) 0 (4 * (slope_of l i).width) from to → r ≡ ramp_of (multi_span factor sk l count undrifted i)
 
-    between : (from to : ℕ) → From from → To to → IsRamp from to
+    between : (r : RoundedStretch) (from to : ℕ) → From from → To to → IsRamp r from to
     unfolding multi_span
-    between from to p q =
-        let w = own.within.width in
-        rw (← own.slope) (whole_ramp (4 * s.width) from to _ _ _ refl p q (omega (arith, w.low)) (omega (arith, w.high)))
+    between r from to p q e = whole_ramp r _ _ _ _ _ e p q
 
-    own_is : Part x (own_load factor sk l i)
-    unfolding own_load
-    own_is = rw (← own.slope) own.load
+    -- its own load, and the load at its valley
+    module _ (own : x ≡ break_load parts (own_load factor sk l i)) where
+      pub level_ramp : (r : RoundedStretch) → level ≡ true → IsRamp r x x
+      unfolding multi_span_from multi_span_to
+      level_ramp r h =
+          let t = no_valley undrifted (eqb i 0) (eqb (i + 1) (2 * count)) refl refl h in
+          between r x x (rw t.0 own) (rw t.1 own)
 
-    pub level_ramp : level ≡ true → IsRamp x x
-    unfolding multi_span_from multi_span_to
-    level_ramp h =
-        let t = no_valley undrifted (eqb i 0) (eqb (i + 1) (2 * count)) refl refl h in
-        between x x (rw t.0 own_is) (rw t.1 own_is)
+      module _ (r : RoundedStretch) (h : level ≡ false) where
+        pub left_ramp : i % 2 ≡ 0 → y ≡ break_load parts (valley_load factor sk l (i - 1)) → IsRamp r y x
+        unfolding multi_span_from multi_span_to
+        left_ramp p q =
+            let n = none undrifted (eqb i 0) (eqb (i + 1) (2 * count)) h in
+            between r y x (rw (n.0, n.1, p) q) (rw (n.0, n.2, p) own)
 
-    -- with the slope across the valley, and the valley's load
-    module _ (j : ℕ) (o : Slope) (y : ℕ) (ej : j ≡ cond (eqb (i % 2) 0) (i - 1) (i + 1)) (eo : o ≡ slope_of l j)
-        (ey : Part y (load_alone (valley_mu s.pitch o.pitch) factor sk)) (h : level ≡ false) where
-      pub left_ramp : i % 2 ≡ 0 → IsRamp y x
-      unfolding multi_span_from multi_span_to valley_load
-      left_ramp p =
-          let n = none undrifted (eqb i 0) (eqb (i + 1) (2 * count)) h in
-          let e : i - 1 + 1 ≡ i = omega (arith, (inner h).0) in
-          let f : j ≡ i - 1 = rw p at ej in
-          let c = add_comm o.pitch s.pitch in
-          between y x (rw (n.0, n.1, p, e, ← f, ← own.slope, ← eo, c) ey) (rw (n.0, n.2, p) own_is)
+        pub right_ramp : i % 2 ≡ 1 → y ≡ break_load parts (valley_load factor sk l i) → IsRamp r x y
+        unfolding multi_span_from multi_span_to
+        right_ramp p q =
+            let n = none undrifted (eqb i 0) (eqb (i + 1) (2 * count)) h in
+            between r x y (rw (n.0, n.1, p) own) (rw (n.0, n.2, p) q)
 
-      pub right_ramp : i % 2 ≡ 1 → IsRamp x y
-      unfolding multi_span_from multi_span_to valley_load
-      right_ramp p =
-          let n = none undrifted (eqb i 0) (eqb (i + 1) (2 * count)) h in
-          let f : j ≡ i + 1 = rw p at ej in
-          between x y (rw (n.0, n.1, p) own_is) (rw (n.0, n.2, p, ← f, ← own.slope, ← eo) ey)
+-- the widths of the first n slopes, and of those between two, by the list of slopes
+widths_first : (l : Spans) (n : ℕ) → n ≤ length l.slopes → widths l n ≡ sum_by (λ s. s.width) (take n l.slopes)
+unfolding widths slope_of
+widths_first l zero h = refl
+widths_first l (suc n) h =
+    let e = sum_by_more (λ s. s.width) l.slopes n flat (omega arith) in
+    let p = widths_first l n (omega arith) in
+    rw (← add-one n) (omega (arith, e, p))
 
-pub widths_more : (l : List ℕ) (i : ℕ) → widths l (i + 1) ≡ widths l i + (slope_of l i).width
-unfolding widths
-widths_more l i = rw (add-one i)
+pub widths_part :
+    (l : Spans) (from to : ℕ) → from ≤ to → to ≤ length l.slopes
+    → widths l from + sum_by (λ s. s.width) (mid_of from (to - from) l.slopes) ≡ widths l to
+widths_part l from to h k =
+    let e : from + (to - from) ≡ to = omega arith in
+    let p = take-add from (to - from) l.slopes in
+    let q = sum_by-append (λ s. s.width) (take from l.slopes) (take (to - from) (drop from l.slopes)) in
+    rw (widths_first l from (omega arith), widths_first l to k, ← q, ← p, e)

@@ -10,9 +10,6 @@ use std::io::Read;
 // A sheet's most bytes and one more, which tells a sheet that is too long.
 const SHEET_ROOM: usize = 16_385;
 
-// How many numbers a store has.
-const STORE_NUMBERS: usize = 193;
-
 // Zeros. Their number is a parameter, since the check counts a large literal one out.
 fn zeros<const N: usize>() -> [u8; N] {
     [0; N]
@@ -33,7 +30,7 @@ fn main(rt: HostRuntime) -> Result<()> {
         return Ok(());
     }
     // The program has an empty store.
-    let store = [0; STORE_NUMBERS];
+    let store = [0; listing::STORE_NUMBERS];
     let mut numbers = [0; NUMBERS];
     let mut text = zeros::<LIST_ROOM>();
     let written = listing::list(&store, &sheet[..n], &mut numbers, &mut text);

@@ -1,53 +1,61 @@
 // The items of a multi-span roof, kinds 4 and 9.
-#![tactic(auto)]
+#![tactic(auto, unfolding(crate::specs::SpanItems::multi_span_item, crate::specs::SpanItems::drifted_item))]
 
-ghost use Rattle.std.specs.Prelude.{◌≡◌};
-ghost use Rattle.span_items.specs.SpanItems.{multi_span_item, drifted_item};
+ghost use Rattle.std.specs.Prelude.{◌≡◌, ◌<◌, ◌≤◌, MatchResult, length};
+ghost use Rattle.little_endian.specs.Numbers.{byte_at};
+ghost use Rattle.span_items.specs.SpanItems.{multi_span_item, drifted_item, spans_said, SpansThere};
 
-use figures::Shape;
-use item_forms::{Decoded, ITEM_LENGTH, Item, alone, refused};
-use little_endian::byte_to_usize;
+use figures::{Refusal, Shape, Spans};
+use item_forms::{Item, check_length};
 use span_numbers::{put_drifted, put_slopes, spans_held};
 
+// The count of spans; an item without its byte is refused.
+fn count_at(p: &[u8]) -> Result<u8, Refusal>
+    ensures { MatchResult result (λ count. (count ≡ byte_at p.now 1) × (2 ≤ length p.now)) (λ e. (e ≡ Refusal.ItemLength) × (length p.now < 2)) }
+{
+    p.get(1).copied().ok_or(Refusal::ItemLength)
+}
+
 // A multi-span roof, kind 4.
-pub fn multi_span_item(p: &[u8]) -> Decoded
+pub fn multi_span_item(p: &[u8]) -> Result<Item, Refusal>
     ensures { result ≡ multi_span_item p.now }
 {
-    if p.len() < 2 {
-        return refused(ITEM_LENGTH);
-    }
-    let count = byte_to_usize(p[1]);
-    if p.len() != 2 + 12 * count {
-        return refused(ITEM_LENGTH);
-    }
-    let shape = Shape::MultiSpan {
-        count: p[1],
+    let count = count_at(p)?;
+    check_length(p, 2 + 12 * usize::from(count))?;
+    Ok(Item::RoofItem(Shape::MultiSpan {
+        count,
         drifts: false,
-    };
-    let mut decoded = alone(Item::RoofItem(shape));
-    put_slopes(p, spans_held(count), &mut decoded.spans);
-    decoded
+    }))
 }
 
 // A multi-span roof with drifts in its valleys, kind 9.
-pub fn drifted_item(p: &[u8]) -> Decoded
+pub fn drifted_item(p: &[u8]) -> Result<Item, Refusal>
     ensures { result ≡ drifted_item p.now }
 {
-    if p.len() < 2 {
-        return refused(ITEM_LENGTH);
-    }
-    let count = byte_to_usize(p[1]);
+    let count = count_at(p)?;
     if count == 0 {
-        return refused(ITEM_LENGTH);
+        return Err(Refusal::ItemLength);
     }
-    if p.len() != 20 * count - 6 {
-        return refused(ITEM_LENGTH);
-    }
-    let shape = Shape::MultiSpan {
-        count: p[1],
+    check_length(p, 20 * usize::from(count) - 6)?;
+    Ok(Item::RoofItem(Shape::MultiSpan {
+        count,
         drifts: true,
-    };
-    let mut decoded = alone(Item::RoofItem(shape));
-    put_drifted(p, count, &mut decoded.spans);
-    decoded
+    }))
+}
+
+// The spans of a roof of a shape, by its item's bytes. For the crates above, which have decoded it.
+pub fn spans_in(p: &[u8], shape: Shape) -> Spans
+    requires { SpansThere shape p.now }
+    ensures { result ≡ spans_said shape p.now }
+{
+    let mut spans = Spans::none();
+    if let Shape::MultiSpan { count, drifts } = shape {
+        let count = usize::from(count);
+        if drifts {
+            put_drifted(p, count, &mut spans);
+        } else {
+            put_slopes(p, spans_held(count), &mut spans.slopes);
+        }
+    }
+    spans
 }

@@ -6,8 +6,8 @@ use borrow.Author.Tests.{ltb-true, ltb-false}
 use lib.Dec.{ltb, eqb}
 use native.Mathlib.Nat.{mul-le-mul_left}
 use native.Mathlib.Omega.{arith}
-use Rattle.figures.specs.declared.roof.Slope.{Slope}
-use Rattle.figures.specs.Bounds.{AbuttingIn}
+use Rattle.std.proofs.lemmas.Bool.{true≢false}
+use Rattle.figures.specs.declared.slopes.Slope.{Slope}
 use Rattle.rounding.specs.Load.{Load, Positive}
 use Rattle.rounding.proofs.Limited.{min_mono, max_mono, held_low}
 use Rattle.standard.specs.Coefficients.{drift_length, mu_wind, mu_slide}
@@ -66,14 +66,14 @@ module _ (national : National) (factor b1 b2 h : ℕ) (slope : Slope) (guard : �
       }
 
   pub abutting_formed :
-      (undrifted : Bool) (sk : ℕ) → 0 < sk → 0 < national.short → AbuttingIn b1 b2 h slope guard
+      (undrifted : Bool) (sk : ℕ) → 0 < sk → 0 < national.short → 0 < b2 → 0 < h
       → WellFormed (abutting national factor sk b1 b2 h slope guard undrifted) (abutting_count national b2 h undrifted) (4 * b2)
   unfolding abutting abutting_count start_of
-  abutting_formed true sk hs p f =
-      formed _ _ _ (omega arith) (omega arith) (λ i h. even_readable _ _ (omega (arith, f.lower.low)) (eight_tenths_positive factor sk)) (omega arith)
-  abutting_formed false sk hs p f =
+  abutting_formed true sk hs p hb hh =
+      formed _ _ _ (omega arith) (omega arith) (λ i h. even_readable _ _ (omega arith) (eight_tenths_positive factor sk)) (omega arith)
+  abutting_formed false sk hs p hb hh =
       drift_formed (abutting_length national h) b2 (wall_load national factor sk b1 b2 h slope guard) (eight_tenths factor sk)
-      (length_positive national h p) f.lower.low (wall_positive sk hs f.step.low p) (eight_tenths_positive factor sk)
+      (length_positive national h p) hb (wall_positive sk hs hh p) (eight_tenths_positive factor sk)
       (ltb (abutting_length national h) b2) (ltb-true _ _) (ltb-false _ _)
 
   pub abutting_rises :
@@ -89,7 +89,7 @@ module _ (national : National) (factor b1 b2 h : ℕ) (slope : Slope) (guard : �
       (undrifted : Bool) (sk i : ℕ) → (not undrifted && eqb i 0) ≡ false → Level (abutting national factor sk b1 b2 h slope guard undrifted i)
   unfolding abutting abutting_drift
   abutting_level true sk i e = even_level _ _
-  abutting_level false sk zero e = let z : ◌≡◌ {A = ℕ} 0 1 = cc in absurd (omega arith)
+  abutting_level false sk zero e = absurd (true≢false e)
   abutting_level false sk (suc i) e = even_level _ _
 
 -- Of two stretches the first is a ramp.
@@ -98,7 +98,7 @@ pub abutting_apart :
     → (not undrifted && eqb i 0) ≡ false → ⊥
 unfolding abutting_count
 abutting_apart national b2 h true i c e = omega arith
-abutting_apart national b2 h false zero c e = let z : ◌≡◌ {A = ℕ} 0 1 = cc in omega arith
+abutting_apart national b2 h false zero c e = true≢false e
 abutting_apart national b2 h false (suc i) c e = at_most_two (ltb (abutting_length national h) b2) c
   where
     at_most_two : (more : Bool) → suc (suc i) < cond more 2 1 → ⊥
@@ -110,7 +110,7 @@ pub abutting_past :
     (national : National) (b2 h i : ℕ) (undrifted : Bool) → i < abutting_count national b2 h undrifted → undrifted ≡ false → (i ≡ 0 → ⊥)
     → abutting_length national h < b2
 unfolding abutting_count
-abutting_past national b2 h i true lt e n = let z : ◌≡◌ {A = ℕ} 0 1 = cc in absurd (omega arith)
+abutting_past national b2 h i true lt e n = absurd (true≢false e)
 abutting_past national b2 h i false lt e n = go (ltb (abutting_length national h) b2) refl lt
   where
     go : (b : Bool) → ltb (abutting_length national h) b2 ≡ b → i < cond b 2 1 → abutting_length national h < b2

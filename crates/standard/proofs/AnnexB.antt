@@ -4,9 +4,11 @@ use mathlib.Core.Path.{◌≡◌, refl}
 use mathlib.Core.Bool.{cond, true}
 use mathlib.Core.List.{List, [], ◌∷◌, ◌++◌}
 use lib.ListN.{replicate}
-use Rattle.figures.specs.RoofRules.{roof_of, slope_of, valley_of}
-use Rattle.figures.specs.declared.site.JobDay.TheVariants.{Undated}
+use Rattle.std.specs.Prelude.{None}
+use Rattle.figures.specs.RoofRules.{roof_of}
+use Rattle.figures.specs.Spans.{flat, level, slope_of, valley_of}
 use Rattle.figures.specs.declared.site.Site.{Site}
+use Rattle.figures.specs.declared.slopes.Slope.{Slope}
 use Rattle.figures.specs.declared.roof.Roof.{Roof}
 use Rattle.figures.specs.declared.roof.Shape.TheVariants.{MultiSpan}
 use Rattle.rounding.specs.Limit.{smaller}
@@ -73,14 +75,20 @@ which_codes = refl
 
 -- a site in situation 3 with its own Ce, Ct and Cesl, which play no part
 abbrev site : ℕ → Site
-site sk = record { sk = sk; ce = 80; ct = 50; cesl = 300; situation = 3; altitude = 0; day = Undated }
+site sk = record { sk = sk; ce = 80; ct = 50; cesl = 300; situation = 3; altitude = 0; day = None }
+
+abbrev sloping : ℕ → ℕ → Slope
+sloping pitch width = record { pitch = pitch; width = width }
 
 -- three spans of slopes 4,000 and 5,000, 6,001 and 7,000, 3,000 and 8,002, with h and b3 of their two valleys
 abbrev roof : ℕ → ℕ → ℕ → ℕ → Roof
 roof h b3 h' b3' =
     roof_of (MultiSpan 3 true)
-    ((200 ∷ 4000 ∷ 300 ∷ 5000 ∷ 200 ∷ 6001 ∷ 300 ∷ 7000 ∷ 200 ∷ 3000 ∷ 300 ∷ 8002 ∷ replicate 52 0)
-    ++ (h ∷ b3 ∷ h' ∷ b3' ∷ replicate 26 0))
+    (record {
+      slopes =
+          sloping 200 4000 ∷ sloping 300 5000 ∷ sloping 200 6001 ∷ sloping 300 7000 ∷ sloping 200 3000 ∷ sloping 300 8002 ∷ replicate 26 flat;
+      valleys = record { h = h; b3 = b3 } ∷ record { h = h'; b3 = b3' } ∷ replicate 13 level;
+    })
 
 abbrev drift : ℕ → Roof → ℕ → List ℕ
 drift sk r code = arrangement recommended_figures (site sk) r code

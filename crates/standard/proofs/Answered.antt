@@ -17,7 +17,7 @@ use Rattle.figures.specs.declared.roof.Roof.{Roof}
 use Rattle.figures.proofs.Stores.{accepted, in_use_in}
 use Rattle.standard.specs.Answers.{Answer, value, refused, after_rules, after_code, national_for, station_answer, load_in, load_answer}
 use Rattle.standard.specs.Arrangements.{exists, end_of, load_at, exact_at, NearExact}
-use Rattle.standard.specs.Bounds.{FiguresIn}
+use Rattle.figures.specs.Bounds.{FiguresIn}
 use Rattle.standard.proofs.Demand.{Alike, distance, rising}
 
 -- accepted figures, under the national ones in use

@@ -5,10 +5,12 @@ use mathlib.Core.Bool.{Bool, true, false, cond, not, ◌&&◌, ◌||◌}
 use borrow.Author.Tests.{eqb-true, eq-eqb}
 use lib.Dec.{eqb}
 use native.Mathlib.Omega.{arith}
+use Rattle.std.proofs.lemmas.Bool.{false≢true}
 use Rattle.figures.specs.Bounds.{Within}
 use Rattle.figures.specs.Ranges.{within}
 use Rattle.figures.proofs.Accepted.{range}
 use Rattle.figures.proofs.Laws.{both}
+use Rattle.figures.proofs.Tests.{clash, or_right}
 use Rattle.standard.specs.Codes.{persistent_by, drifts_in, persistent_in, accidental, base_code, accidental_in, names_valley, exists_in, highest_code, last_code}
 
 either : {P : Type 0} (a b : Bool) → (a || b) ≡ true → (a ≡ true → P) → (b ≡ true → P) → P
@@ -17,20 +19,12 @@ either false b h f g = g h
 
 or_left : (a b : Bool) → a ≡ true → (a || b) ≡ true
 or_left true b h = refl
-or_left false b h = let z : ◌≡◌ {A = ℕ} 0 1 = cc in absurd (omega arith)
-
-or_right : (a b : Bool) → b ≡ true → (a || b) ≡ true
-or_right true b h = refl
-or_right false b h = h
+or_left false b h = absurd (false≢true h)
 
 not_both : (a b : Bool) → not (a && b) ≡ true → a ≡ true → b ≡ true → ⊥
-not_both true true h p q = let z : ◌≡◌ {A = ℕ} 0 1 = cc in omega arith
-not_both true false h p q = let z : ◌≡◌ {A = ℕ} 0 1 = cc in omega arith
-not_both false b h p q = let z : ◌≡◌ {A = ℕ} 0 1 = cc in omega arith
-
-untrue : (a : Bool) → a ≡ true → a ≡ false → ⊥
-untrue true p q = let z : ◌≡◌ {A = ℕ} 0 1 = cc in omega arith
-untrue false p q = let z : ◌≡◌ {A = ℕ} 0 1 = cc in omega arith
+not_both true true h p q = false≢true h
+not_both true false h p q = false≢true q
+not_both false b h p q = false≢true p
 
 one : (code low high n : ℕ) → low ≤ n → n ≤ high → eqb code n ≡ true → Within low high code
 one code low high n p q h = let e = eqb-true code n h in record { low = omega arith; high = omega arith }
@@ -82,7 +76,7 @@ module _ (kind situation spans code : ℕ) (h : exists_in kind situation spans c
       go false k =
           either (persistent_in kind situation code) (drifts_in kind situation && names_valley spans code) k
           (λ p. (both (persistent_by kind code) (not (drifts_in kind situation && eqb code 2)) p).0)
-          (λ p. absurd (untrue (drifts_in kind situation) (both (drifts_in kind situation) (names_valley spans code) p).0 d))
+          (λ p. clash (both (drifts_in kind situation) (names_valley spans code) p).0 d)
 
   -- where it has drifts, a code that exists is 1, 11 or that of a valley
   pub with_drifts : drifts_in kind situation ≡ true → (eqb (base_code code) 1 || names_valley spans code) ≡ true

@@ -8,8 +8,9 @@ use lib.Dec.{leb, ltb}
 use native.Mathlib.Decide.{dec_le}
 use native.Mathlib.Nat.{mul-le-mul, mul-le-mul_left, mul-pos, le_trans, add-sub_of_le, eq-or-lt_of_le, pos_of_ne-zero}
 use native.Mathlib.Omega.{arith}
+use Rattle.std.proofs.lemmas.Bool.{false≢true}
 use Rattle.figures.specs.Ranges.{within}
-use Rattle.figures.specs.Bounds.{CylindricalIn}
+use Rattle.figures.proofs.Tests.{clash}
 use Rattle.rounding.specs.Fraction.{over}
 use Rattle.rounding.specs.Up.{rounded_up}
 use Rattle.rounding.specs.Load.{Load, Positive}
@@ -49,12 +50,9 @@ module _ (test : ℕ → Bool) where
   first_only : (k r n : ℕ) → First test 0 k r → n ≤ k → test n ≡ true → ((m : ℕ) → m < n → test m ≡ false) → r ≡ n
   first_only k r n f h t b =
       elim (dec_le r n) [
-        | yes p ↦ ⊎_elim (λ same. same) (λ below. absurd (both_ways r (f.taken (omega arith)) (b r below))) (eq-or-lt_of_le p)
-        | no p ↦ absurd (both_ways n t (f.before n (omega arith) (omega arith)))
+        | yes p ↦ ⊎_elim (λ same. same) (λ below. clash (f.taken (omega arith)) (b r below)) (eq-or-lt_of_le p)
+        | no p ↦ clash t (f.before n (omega arith) (omega arith))
       ]
-    where
-      both_ways : (m : ℕ) → test m ≡ true → test m ≡ false → ⊥
-      both_ways m p q = let z : ◌≡◌ {A = ℕ} 0 1 = cc in omega arith
 
 -- (b − a) × (d − c) is not below 0, multiplied out
 product : {a b c d : ℕ} → a ≤ b → c ≤ d → a * d + b * c ≤ a * c + b * d
@@ -247,16 +245,16 @@ module _ (national : National) (factor rise span : ℕ) where
   peak_up s t p = steady_up factor s t _ p
 
   pub cylindrical_formed :
-      (undrifted : Bool) (sk : ℕ) → CylindricalIn rise span
+      (undrifted : Bool) (sk : ℕ) → 0 < rise → 2 * rise ≤ span
       → WellFormed (cylindrical national factor sk rise span undrifted) (cylindrical_count rise span undrifted) (4 * span)
   unfolding cylindrical cylindrical_count
-  cylindrical_formed true sk f =
-      arch_even_formed span (loaded_width rise span) (width_positive rise span f.rise.low f.half) factor sk
+  cylindrical_formed true sk r h =
+      arch_even_formed span (loaded_width rise span) (width_positive rise span r h) factor sk
       (ltb (loaded_width rise span) span) (ltb-true _ _) (all_loaded rise span)
-  cylindrical_formed false sk f =
-      let h : 0 < span = omega (arith, f.span.low) in
-      arch_drift_formed span (loaded_width rise span) (width_positive rise span f.rise.low f.half)
-      (half_load national factor sk rise span) (peak_load national factor sk rise span) (half_positive sk h) (peak_positive sk h)
+  cylindrical_formed false sk r h =
+      let s : 0 < span = omega arith in
+      arch_drift_formed span (loaded_width rise span) (width_positive rise span r h)
+      (half_load national factor sk rise span) (peak_load national factor sk rise span) (half_positive sk s) (peak_positive sk s)
       (ltb (loaded_width rise span) span) (ltb-true _ _) (all_loaded rise span)
 
   pub cylindrical_rises :
@@ -326,7 +324,7 @@ arch_row_by false false ls span i f h =
     record {
       few = omega arith;
       first = λ e. absurd (omega arith);
-      even_last = λ e g. let z : ◌≡◌ {A = ℕ} 0 1 = cc in absurd (omega arith);
+      even_last = λ e g. absurd (false≢true e);
       drift_last = λ e g. absurd (omega arith);
     }
 

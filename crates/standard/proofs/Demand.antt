@@ -3,15 +3,16 @@
 use Prim.Native.Nat.{ℕ, suc, ◌*◌, ◌≤◌, ◌<◌}
 use mathlib.Core.Path.{◌≡◌, sym, ap, subst, ◌∙◌}
 use mathlib.Core.Bool.{Bool, true, false, cond}
-use mathlib.Core.List.{List}
 use borrow.Author.Tests.{not-false}
 use lib.Dec.{eqb}
 use native.Mathlib.Nat.{mul-pos}
 use native.Mathlib.Omega.{arith}
+use Rattle.std.proofs.lemmas.Bool.{true≢false}
 use Rattle.figures.specs.Bounds.{SiteIn, ShapeIn}
 use Rattle.figures.specs.SiteRules.{site_refusal}
 use Rattle.figures.specs.RoofRules.{kind_of, span_count, roof_refusal}
 use Rattle.figures.specs.declared.site.Site.{Site}
+use Rattle.figures.specs.declared.slopes.Spans.{Spans}
 use Rattle.figures.specs.declared.roof.Shape.{Shape}
 use Rattle.figures.specs.declared.roof.Shape.TheVariants.{Monopitch, Pitched, MultiSpan, Cylindrical, Abutting, Projection}
 use Rattle.figures.specs.declared.roof.Roof.{Roof}
@@ -37,47 +38,50 @@ use Rattle.standard.proofs.Projection.{projection_formed, projection_rises, proj
 use Rattle.standard.proofs.ValleyDrift.{spans_formed, spans_rises, spans_level, drift_alike, drift_apart}
 
 -- kind by kind
-module _ (national : National) (spans : List ℕ) (factor code : ℕ) where
+module _ (national : National) (spans : Spans) (factor code : ℕ) where
   formed_in :
       (shape : Shape) (sk : ℕ) → 0 < sk → 0 < national.short → ShapeIn shape spans
       → WellFormed (stretch_in national shape spans factor sk code) (count_in national shape code) (end_in shape spans)
   unfolding stretch_in count_in end_in
-  formed_in (Monopitch slope guard) sk hs hn f = monopitch_formed factor slope guard sk f
-  formed_in (Pitched left right left_guard right_guard) sk hs hn f = pitched_formed factor left right left_guard right_guard code sk f
+  formed_in (Monopitch slope) sk hs hn f = monopitch_formed factor slope.slope slope.guard sk f.slope
+  formed_in (Pitched left right) sk hs hn f = pitched_formed factor left.slope right.slope left.guard right.guard code sk f.left.slope f.right.slope
   formed_in (MultiSpan count drifts) sk hs hn f = spans_formed spans factor count code sk f
-  formed_in (Cylindrical rise span) sk hs hn f = cylindrical_formed national factor rise span (eqb code 1) sk f
-  formed_in (Abutting b1 b2 h slope guard stepped) sk hs hn f = abutting_formed national factor b1 b2 h slope guard (eqb code 1) sk hs hn f
-  formed_in (Projection h left right) sk hs hn f = projection_formed factor h left right sk hs f
+  formed_in (Cylindrical arch) sk hs hn f = cylindrical_formed national factor arch.rise arch.span (eqb code 1) sk f.rise.low f.half
+  formed_in (Abutting lower) sk hs hn f =
+      abutting_formed national factor lower.b1 lower.b2 lower.h lower.slope.slope lower.slope.guard (eqb code 1) sk hs hn f.lower.low f.step.low
+  formed_in (Projection p) sk hs hn f = projection_formed factor p.h p.left p.right sk hs f.left.low f.right.low
 
   rises_in :
       (shape : Shape) (s t i : ℕ) → 0 < s → s ≤ t → ShapeIn shape spans
       → Rises (stretch_in national shape spans factor s code i) (stretch_in national shape spans factor t code i)
   unfolding stretch_in
-  rises_in (Monopitch slope guard) s t i hs p f = monopitch_rises factor slope guard s t i p
-  rises_in (Pitched left right left_guard right_guard) s t i hs p f = pitched_rises factor left right left_guard right_guard code s t i p
+  rises_in (Monopitch slope) s t i hs p f = monopitch_rises factor slope.slope slope.guard s t i p
+  rises_in (Pitched left right) s t i hs p f = pitched_rises factor left.slope right.slope left.guard right.guard code s t i p
   rises_in (MultiSpan count drifts) s t i hs p f = spans_rises spans factor count code s t i p f
-  rises_in (Cylindrical rise span) s t i hs p f = cylindrical_rises national factor rise span (eqb code 1) s t i p
-  rises_in (Abutting b1 b2 h slope guard stepped) s t i hs p f = abutting_rises national factor b1 b2 h slope guard (eqb code 1) s t i hs p f.step.low
-  rises_in (Projection h left right) s t i hs p f = projection_rises factor h left right s t i hs p
+  rises_in (Cylindrical arch) s t i hs p f = cylindrical_rises national factor arch.rise arch.span (eqb code 1) s t i p
+  rises_in (Abutting lower) s t i hs p f =
+      abutting_rises national factor lower.b1 lower.b2 lower.h lower.slope.slope lower.slope.guard (eqb code 1) s t i hs p f.step.low
+  rises_in (Projection r) s t i hs p f = projection_rises factor r.h r.left r.right s t i hs p
 
   level_in : (shape : Shape) (sk i : ℕ) → ramped_in national shape code i ≡ false → Level (stretch_in national shape spans factor sk code i)
   unfolding stretch_in ramped_in
-  level_in (Monopitch slope guard) sk i e = monopitch_level factor slope guard sk i
-  level_in (Pitched left right left_guard right_guard) sk i e = pitched_level factor left right left_guard right_guard code sk i
+  level_in (Monopitch slope) sk i e = monopitch_level factor slope.slope slope.guard sk i
+  level_in (Pitched left right) sk i e = pitched_level factor left.slope right.slope left.guard right.guard code sk i
   level_in (MultiSpan count drifts) sk i e = spans_level spans factor count code sk i e
-  level_in (Cylindrical rise span) sk i e = cylindrical_level national factor rise span (eqb code 1) sk i e
-  level_in (Abutting b1 b2 h slope guard stepped) sk i e = abutting_level national factor b1 b2 h slope guard (eqb code 1) sk i e
-  level_in (Projection h left right) sk i e = projection_level factor h left right sk i e
+  level_in (Cylindrical arch) sk i e = cylindrical_level national factor arch.rise arch.span (eqb code 1) sk i e
+  level_in (Abutting lower) sk i e =
+      abutting_level national factor lower.b1 lower.b2 lower.h lower.slope.slope lower.slope.guard (eqb code 1) sk i e
+  level_in (Projection p) sk i e = projection_level factor p.h p.left p.right sk i e
 
 -- no roof is longer than the largest position
-end_most : (shape : Shape) (spans : List ℕ) → ShapeIn shape spans → end_in shape spans ≤ largest_position
+end_most : (shape : Shape) (spans : Spans) → ShapeIn shape spans → end_in shape spans ≤ largest_position
 unfolding end_in
-end_most (Monopitch slope guard) spans f = omega (arith, f.slope.width.high)
-end_most (Pitched left right left_guard right_guard) spans f = omega (arith, f.left.width.high, f.right.width.high)
+end_most (Monopitch slope) spans f = omega (arith, f.slope.width.high)
+end_most (Pitched left right) spans f = omega (arith, f.left.slope.width.high, f.right.slope.width.high)
 end_most (MultiSpan count drifts) spans f = omega (arith, widths_most spans (2 * count) f.spans, f.count.high)
-end_most (Cylindrical rise span) spans f = omega (arith, f.span.high)
-end_most (Abutting b1 b2 h slope guard stepped) spans f = omega (arith, f.lower.high)
-end_most (Projection h left right) spans f = omega (arith, f.left.high, f.right.high)
+end_most (Cylindrical arch) spans f = omega (arith, f.span.high)
+end_most (Abutting lower) spans f = omega (arith, f.lower.high)
+end_most (Projection p) spans f = omega (arith, f.left.high, f.right.high)
 
 -- a pitched roof has two segments, and a drift in a valley four
 pub record Few (kind spans code n : ℕ) : Type 0 where
@@ -86,28 +90,35 @@ pub record Few (kind spans code n : ℕ) : Type 0 where
 
 pub few_segments : (national : National) (shape : Shape) (code : ℕ) → Few (kind_of shape) (span_count shape) code (count_in national shape code)
 unfolding count_in spans_count
-few_segments national (Monopitch slope guard) code = record { pitched = λ e. omega arith; valley = λ e n. omega arith }
-few_segments national (Pitched left right left_guard right_guard) code = record { pitched = λ e. omega arith; valley = λ e n. omega arith }
+few_segments national (Monopitch slope) code = record { pitched = λ e. omega arith; valley = λ e n. omega arith }
+few_segments national (Pitched left right) code = record { pitched = λ e. omega arith; valley = λ e n. omega arith }
 few_segments national (MultiSpan count true) code = record { pitched = λ e. absurd (omega arith); valley = λ e n. rw n (omega arith) }
 few_segments national (MultiSpan count false) code = record { pitched = λ e. absurd (omega arith); valley = λ e n. absurd (omega arith) }
-few_segments national (Cylindrical rise span) code = record { pitched = λ e. absurd (omega arith); valley = λ e n. absurd (omega arith) }
-few_segments national (Abutting b1 b2 h slope guard true) code = record { pitched = λ e. absurd (omega arith); valley = λ e n. absurd (omega arith) }
-few_segments national (Abutting b1 b2 h slope guard false) code = record { pitched = λ e. absurd (omega arith); valley = λ e n. absurd (omega arith) }
-few_segments national (Projection h left right) code = record { pitched = λ e. absurd (omega arith); valley = λ e n. absurd (omega arith) }
+few_segments national (Cylindrical arch) code = record { pitched = λ e. absurd (omega arith); valley = λ e n. absurd (omega arith) }
+few_segments national (Abutting lower) code =
+    record {
+      pitched = λ e. absurd (another lower.stepped 3 (omega arith) (omega arith) e);
+      valley = λ e n. absurd (another lower.stepped 9 (omega arith) (omega arith) e);
+    }
+  where
+    another : (stepped : Bool) (kind : ℕ) → (6 ≡ kind → ⊥) → (10 ≡ kind → ⊥) → cond stepped 10 6 ≡ kind → ⊥
+    another true kind a b e = b e
+    another false kind a b e = a e
+few_segments national (Projection p) code = record { pitched = λ e. absurd (omega arith); valley = λ e n. absurd (omega arith) }
 
-module _ (national : National) (spans : List ℕ) (factor sk code i : ℕ) (hf : 0 < factor) (hs : 0 < sk) where
+module _ (national : National) (spans : Spans) (factor sk code i : ℕ) (hf : 0 < factor) (hs : 0 < sk) where
   apart_in :
       (shape : Shape) → several_slopes (kind_of shape) (span_count shape) code ≡ false → suc i < count_in national shape code
       → ramped_in national shape code i ≡ false → ramped_in national shape code (suc i) ≡ false
       → returned (stretch_in national shape spans factor sk code i).from ≡ returned (stretch_in national shape spans factor sk code (suc i)).from → ⊥
   unfolding stretch_in count_in ramped_in
-  apart_in (Monopitch slope guard) k c e e' d = omega arith
-  apart_in (Pitched left right left_guard right_guard) k c e e' d = let z : ◌≡◌ {A = ℕ} 0 1 = cc in omega arith
+  apart_in (Monopitch slope) k c e e' d = omega arith
+  apart_in (Pitched left right) k c e e' d = true≢false k
   apart_in (MultiSpan count true) k c e e' d = drift_apart count code i (not-false _ k) c e e'
-  apart_in (MultiSpan count false) k c e e' d = let z : ◌≡◌ {A = ℕ} 0 1 = cc in omega arith
-  apart_in (Cylindrical rise span) k c e e' d = cylindrical_apart national factor rise span (eqb code 1) sk i hf hs c e e' d
-  apart_in (Abutting b1 b2 h slope guard stepped) k c e e' d = abutting_apart national b2 h (eqb code 1) i c e
-  apart_in (Projection h left right) k c e e' d = projection_apart h left right i c e e'
+  apart_in (MultiSpan count false) k c e e' d = true≢false k
+  apart_in (Cylindrical arch) k c e e' d = cylindrical_apart national factor arch.rise arch.span (eqb code 1) sk i hf hs c e e' d
+  apart_in (Abutting lower) k c e e' d = abutting_apart national lower.b2 lower.h (eqb code 1) i c e
+  apart_in (Projection p) k c e e' d = projection_apart p.h p.left p.right i c e e'
 
 factor_positive : (site : Site) (code : ℕ) → SiteIn site → 0 < factor_of site code
 unfolding factor_of
@@ -191,17 +202,17 @@ rising national s t roof code p hn hs hr a h =
     (λ i b. rises_in national roof.spans k (base_code code) roof.shape s.sk t.sk i hk h f))
 
 -- "Ce and Ct play no part": the drift in a valley is that of any site with the same ground load
-module _ (national : National) (spans : List ℕ) (sk code i : ℕ) where
+module _ (national : National) (spans : Spans) (sk code i : ℕ) where
   drift_in :
       (shape : Shape) (factor other : ℕ) → names_valley (span_count shape) code ≡ true
       → stretch_in national shape spans factor sk code i ≡ stretch_in national shape spans other sk code i
   unfolding stretch_in
-  drift_in (Monopitch slope guard) factor other n = absurd (omega (arith, within_in 31 29 code n))
-  drift_in (Pitched left right left_guard right_guard) factor other n = absurd (omega (arith, within_in 31 29 code n))
+  drift_in (Monopitch slope) factor other n = absurd (omega (arith, within_in 31 29 code n))
+  drift_in (Pitched left right) factor other n = absurd (omega (arith, within_in 31 29 code n))
   drift_in (MultiSpan count drifts) factor other n = drift_alike spans factor count code n sk other i
-  drift_in (Cylindrical rise span) factor other n = absurd (omega (arith, within_in 31 29 code n))
-  drift_in (Abutting b1 b2 h slope guard stepped) factor other n = absurd (omega (arith, within_in 31 29 code n))
-  drift_in (Projection h left right) factor other n = absurd (omega (arith, within_in 31 29 code n))
+  drift_in (Cylindrical arch) factor other n = absurd (omega (arith, within_in 31 29 code n))
+  drift_in (Abutting lower) factor other n = absurd (omega (arith, within_in 31 29 code n))
+  drift_in (Projection p) factor other n = absurd (omega (arith, within_in 31 29 code n))
 
 pub drift_alone :
     (national : National) (s t : Site) (roof : Roof) (code i : ℕ) → names_valley (span_count roof.shape) code ≡ true → s.sk ≡ t.sk

@@ -3,6 +3,7 @@ use Prim.Native.Nat.{ℕ, ◌+◌, ◌-◌, ◌*◌, ◌≤◌, ◌<◌, min}
 use mathlib.Core.Path.{◌≡◌, refl, sym, subst, ◌∙◌}
 use mathlib.Core.Bool.{Bool, true, false, cond, ◌&&◌}
 use mathlib.Core.List.{List}
+use Rattle.std.specs.Prelude.{Option, Some, None, is_some}
 use borrow.Author.Tests.{eqb-true}
 use lib.Dec.{ltb, eqb}
 use native.Mathlib.Decide.{dec_le}
@@ -13,9 +14,9 @@ use Rattle.figures.specs.Bounds.{SiteIn}
 use Rattle.figures.specs.Refusals.{figures_refusal}
 use Rattle.figures.specs.RoofRules.{roof_refusal}
 use Rattle.figures.specs.SiteRules.{site_refusal}
-use Rattle.figures.specs.declared.site.JobDay.TheVariants.{Undated}
 use Rattle.figures.specs.declared.site.Site.{Site}
-use Rattle.figures.specs.declared.roof.Slope.{Slope}
+use Rattle.figures.specs.declared.slopes.Slope.{Slope}
+use Rattle.figures.specs.declared.slopes.GuardedSlope.{GuardedSlope}
 use Rattle.figures.specs.declared.roof.Shape.{Shape}
 use Rattle.figures.specs.declared.roof.Shape.TheVariants.{Pitched}
 use Rattle.figures.specs.declared.roof.Roof.{Roof}
@@ -32,7 +33,7 @@ use Rattle.rounding.proofs.Ramps.{break_alone}
 use Rattle.rounding.proofs.Limited.{smaller_is, smaller_mono, smaller_positive}
 use Rattle.standard.specs.Arrangements.{factor_of}
 use Rattle.standard.specs.Coefficients.{mu1, guarded, slope_mu}
-use Rattle.figures.specs.Slopes.{SlopeAt, no_slope, some_slope, slope_at, present}
+use Rattle.figures.specs.Slopes.{slope_at}
 use Rattle.standard.specs.Forces.{slope_load, whole_load, force, none, refused}
 use Rattle.standard.specs.Forces.{unrounded_at, whole_at, larger_unrounded, larger_whole}
 use Rattle.standard.specs.Forces.{OverhangNear, overhang_rule, overhang_force, overhang_at, overhang_answer, overhang_distance}
@@ -64,23 +65,26 @@ load_most n d f s p q r =
 
 -- S is whole: a load of 800.8 N/m² is 801.
 pub whole_801 :
-    whole_load (record { sk = 1001; ce = 100; ct = 100; cesl = 100; situation = 0; altitude = 0; day = Undated }) (record { pitch = 300; width = 1 }) 0 ≡ 801
+    whole_load (record { sk = 1001; ce = 100; ct = 100; cesl = 100; situation = 0; altitude = 0; day = None }) (record { pitch = 300; width = 1 }) 0 ≡ 801
 unfolding whole_load slope_load factor_of guarded mu1 load break_load rounded_up ceil_div
 whole_801 = refl
 
 -- At 801 m under 1,250 N/m² 0° and 45.0° have S 1,000 and 500. Either eave has the overhang of 1,000, whichever slope is left; a third
 -- slope has none. A guard keeps S at 1,000 on 45.0° beside a bare slope: its force is 1,000 × 1 m × 0.707107.
 abbrev mountain : Site
-mountain = record { sk = 1250; ce = 100; ct = 100; cesl = 100; situation = 0; altitude = 801; day = Undated }
+mountain = record { sk = 1250; ce = 100; ct = 100; cesl = 100; situation = 0; altitude = 801; day = None }
+
+abbrev sloping : ℕ → ℕ → ℕ → GuardedSlope
+sloping pitch width guard = record { slope = record { pitch = pitch; width = width }; guard = guard }
 
 abbrev flat_steep : Shape
-flat_steep = Pitched (record { pitch = 0; width = 1 }) (record { pitch = 450; width = 1 }) 0 0
+flat_steep = Pitched (sloping 0 1 0) (sloping 450 1 0)
 
 abbrev steep_flat : Shape
-steep_flat = Pitched (record { pitch = 450; width = 1 }) (record { pitch = 0; width = 1 }) 0 0
+steep_flat = Pitched (sloping 450 1 0) (sloping 0 1 0)
 
 abbrev bare_guarded : Shape
-bare_guarded = Pitched (record { pitch = 600; width = 1000 }) (record { pitch = 450; width = 1000 }) 0 1
+bare_guarded = Pitched (sloping 600 1000 0) (sloping 450 1000 1)
 
 pub forces_worked :
     (whole_at mountain (slope_at flat_steep 1) ≡ 1000)
@@ -122,10 +126,10 @@ module _ (site : Site) where
   unfolding whole_load slope_load
   whole_near slope guard = alone_near _ (load_positive (slope_mu slope guard) (factor_of site 1) site.sk (slope_mu_positive slope guard))
 
-  at_near : (at : SlopeAt) → Near 1 1 (whole_at site at) (unrounded_at site at)
+  at_near : (at : Option GuardedSlope) → Near 1 1 (whole_at site at) (unrounded_at site at)
   unfolding whole_at unrounded_at
-  at_near no_slope = near_nothing 1 1 (omega arith)
-  at_near (some_slope slope guard) = whole_near slope guard
+  at_near None = near_nothing 1 1 (omega arith)
+  at_near (Some slope) = whole_near slope.slope slope.guard
 
   -- The larger whole S is so above the larger unrounded S.
   pub larger_near : (shape : Shape) → Near 1 1 (larger_whole site shape) (larger_unrounded site shape)
@@ -308,12 +312,12 @@ module _ (s width pitch : ℕ) where
 
 -- the theorem on the guard force, of accepted figures
 module _ (site : Site) (roof : Roof) (n : ℕ) (slope : Slope) (guard : ℕ)
-    (hs : site_refusal site ≡ 0) (hr : roof_refusal roof ≡ 0) (e : slope_at roof.shape n ≡ some_slope slope guard) where
+    (hs : site_refusal site ≡ 0) (hr : roof_refusal roof ≡ 0) (e : slope_at roof.shape n ≡ Some (record { slope = slope; guard = guard })) where
   pub guard_distance_lem :
       GuardNear (guard_force (whole_load site slope guard) slope.width slope.pitch) slope.width
       (guard_rule (exact (slope_load site slope guard)) slope.width (sine_reference slope.pitch))
   guard_distance_lem =
-      let side = side_in roof n slope guard hr e in
+      let side = side_in roof n (record { slope = slope; guard = guard }) hr e in
       guard_near (whole_load site slope guard) slope.width slope.pitch
       (whole_most site slope guard (site_in site hs) side.guard) side.slope.width.high side.slope.pitch
       (exact (slope_load site slope guard)) (whole_near site slope guard)
@@ -327,12 +331,12 @@ module _ (store : List ℕ) (site : Site) (roof : Roof) (n : ℕ) where
   answers_from s c = go (eqb (figures_refusal store site roof) 0) (slope_at roof.shape n) (ltb 800 site.altitude)
     where
       go :
-          (a : Bool) (at : SlopeAt) (b : Bool)
-          → overhang_distance (cond a (cond (present at && b) (force (overhang_force (larger_whole site roof.shape))) none)
+          (a : Bool) (at : Option GuardedSlope) (b : Bool)
+          → overhang_distance (cond a (cond (is_some at && b) (force (overhang_force (larger_whole site roof.shape))) none)
           (refused (figures_refusal store site roof))) s at
-      go true (some_slope slope guard) true = overhang_distance_lem s (larger_whole site roof.shape) c
-      go true (some_slope slope guard) false = tt
-      go true no_slope b = tt
+      go true (Some slope) true = overhang_distance_lem s (larger_whole site roof.shape) c
+      go true (Some slope) false = tt
+      go true None b = tt
       go false at b = tt
 
   pub overhang_answers : overhang_distance (overhang_answer store site roof n) (larger_unrounded site roof.shape) (slope_at roof.shape n)
@@ -343,14 +347,14 @@ module _ (store : List ℕ) (site : Site) (roof : Roof) (n : ℕ) where
   guard_answers = go (eqb (figures_refusal store site roof) 0) (slope_at roof.shape n) refl refl
     where
       guarded :
-          (b : Bool) (slope : Slope) (guard : ℕ) → figures_refusal store site roof ≡ 0 → slope_at roof.shape n ≡ some_slope slope guard
-          → guard_distance (cond b (force (guard_force (whole_load site slope guard) slope.width slope.pitch)) none) site (some_slope slope guard)
-      guarded true slope guard h e = let a = accepted store site roof h in guard_distance_lem site roof n slope guard a.site a.roof e
-      guarded false slope guard h e = tt
+          (b : Bool) (slope : GuardedSlope) → figures_refusal store site roof ≡ 0 → slope_at roof.shape n ≡ Some slope
+          → guard_distance (cond b (force (guard_force (whole_load site slope.slope slope.guard) slope.slope.width slope.slope.pitch)) none) site (Some slope)
+      guarded true slope h e = let a = accepted store site roof h in guard_distance_lem site roof n slope.slope slope.guard a.site a.roof e
+      guarded false slope h e = tt
 
       go :
-          (b : Bool) (at : SlopeAt) → eqb (figures_refusal store site roof) 0 ≡ b → slope_at roof.shape n ≡ at
+          (b : Bool) (at : Option GuardedSlope) → eqb (figures_refusal store site roof) 0 ≡ b → slope_at roof.shape n ≡ at
           → guard_distance (cond b (guard_at site at) (refused (figures_refusal store site roof))) site at
-      go true no_slope h e = tt
-      go true (some_slope slope guard) h e = guarded (eqb guard 1) slope guard (eqb-true _ 0 h) e
+      go true None h e = tt
+      go true (Some slope) h e = guarded (eqb slope.guard 1) slope (eqb-true _ 0 h) e
       go false at h e = tt

@@ -2,11 +2,12 @@
 use Prim.Native.Nat.{ℕ, zero, suc, ◌+◌, ◌-◌, ◌*◌, ◌%◌, ◌≤◌, ◌<◌}
 use mathlib.Core.Path.{◌≡◌, refl}
 use mathlib.Core.Bool.{Bool, true, false, cond, ◌||◌}
-use mathlib.Core.List.{List}
 use borrow.Author.Tests.{eqb-true}
 use lib.Dec.{eqb}
 use native.Mathlib.Omega.{arith}
-use Rattle.figures.specs.RoofRules.{slope_of}
+use Rattle.std.proofs.lemmas.Bool.{false≢true}
+use Rattle.figures.specs.Spans.{slope_of}
+use Rattle.figures.specs.declared.slopes.Spans.{Spans}
 use Rattle.figures.specs.Bounds.{SlopeIn, MultiSpanIn}
 use Rattle.rounding.specs.Load.{Load, Positive}
 use Rattle.standard.specs.Stretch.{start_of}
@@ -23,7 +24,7 @@ either_up : (b : Bool) (l m l' m' : Load) → Upward l l' → Upward m m' → Up
 either_up true l m l' m' p q = p
 either_up false l m l' m' p q = q
 
-module _ (spans : List ℕ) where
+module _ (spans : Spans) where
   pub widths_most : (n : ℕ) → ((i : ℕ) → i < n → SlopeIn (slope_of spans i)) → widths spans n ≤ 100000 * n
   unfolding widths
   widths_most zero f = omega arith
@@ -89,4 +90,4 @@ module _ (spans : List ℕ) where
         own_both false true true p q r = refl
         own_both false true false p q r = let e : i % 2 ≡ 0 = omega (arith, eqb-true i 0 p) in rw e
         own_both false false true p q r = let e : i % 2 ≡ 1 = omega (arith, eqb-true (i + 1) (2 * count) q) in rw e
-        own_both false false false p q r = let z : ◌≡◌ {A = ℕ} 0 1 = cc in absurd (omega arith)
+        own_both false false false p q r = absurd (false≢true r)

@@ -6,7 +6,7 @@ use borrow.Author.Tests.{leb-true, leb-false, ltb-true, ltb-false, eqb-true, eqb
 use lib.Dec.{leb, ltb, eqb}
 use native.Mathlib.Nat.{mul-pos}
 use native.Mathlib.Omega.{arith}
-use Rattle.figures.specs.declared.roof.Slope.{Slope}
+use Rattle.figures.specs.declared.slopes.Slope.{Slope}
 use Rattle.rounding.specs.Fraction.{Fraction, over, sum, Same}
 use Rattle.rounding.specs.Limit.{smaller}
 use Rattle.rounding.specs.Up.{ceil_div, rounded_up}

@@ -3,8 +3,8 @@ use Prim.Native.Nat.{ℕ, zero, suc, ◌+◌, ◌*◌, ◌≤◌, ◌<◌}
 use mathlib.Core.Bool.{Bool, true, false}
 use native.Mathlib.Omega.{arith}
 use lib.Dec.{eqb}
-use Rattle.figures.specs.declared.roof.Slope.{Slope}
-use Rattle.figures.specs.Bounds.{PitchedIn}
+use Rattle.figures.specs.declared.slopes.Slope.{Slope}
+use Rattle.figures.specs.Bounds.{SlopeIn}
 use Rattle.rounding.specs.Fraction.{Fraction}
 use Rattle.rounding.specs.Load.{Positive}
 use Rattle.standard.specs.Coefficients.{slope_mu}
@@ -23,16 +23,16 @@ slope_load_positive half slope guard factor sk =
     alone_positive (halved half (slope_mu slope guard)) factor sk (halved_positive half (slope_mu slope guard) (slope_mu_positive slope guard))
 
 module _ (factor : ℕ) (left right : Slope) (left_guard right_guard code : ℕ) where
-  pitched_readable : (sk i : ℕ) → PitchedIn left right left_guard right_guard → Readable (pitched factor sk left right left_guard right_guard code i)
+  pitched_readable : (sk i : ℕ) → SlopeIn left → SlopeIn right → Readable (pitched factor sk left right left_guard right_guard code i)
   unfolding pitched
-  pitched_readable sk zero f = even_readable _ _ (omega (arith, f.left.width.low)) (slope_load_positive (eqb code 2) left left_guard factor sk)
-  pitched_readable sk (suc i) f = even_readable _ _ (omega (arith, f.right.width.low)) (slope_load_positive (eqb code 3) right right_guard factor sk)
+  pitched_readable sk zero f g = even_readable _ _ (omega (arith, f.width.low)) (slope_load_positive (eqb code 2) left left_guard factor sk)
+  pitched_readable sk (suc i) f g = even_readable _ _ (omega (arith, g.width.low)) (slope_load_positive (eqb code 3) right right_guard factor sk)
 
   pub pitched_formed :
-      (sk : ℕ) → PitchedIn left right left_guard right_guard
+      (sk : ℕ) → SlopeIn left → SlopeIn right
       → WellFormed (pitched factor sk left right left_guard right_guard code) 2 (4 * (left.width + right.width))
   unfolding pitched start_of
-  pitched_formed sk f = formed _ _ _ (omega arith) (omega arith) (λ i h. pitched_readable sk i f) (omega arith)
+  pitched_formed sk f g = formed _ _ _ (omega arith) (omega arith) (λ i h. pitched_readable sk i f g) (omega arith)
 
   pub pitched_rises :
       (s t i : ℕ) → s ≤ t

@@ -6,7 +6,6 @@ use borrow.Author.Tests.{ltb-true, ltb-false}
 use lib.Dec.{ltb}
 use native.Mathlib.Omega.{arith}
 use Rattle.figures.specs.Ranges.{within}
-use Rattle.figures.specs.Bounds.{ProjectionIn}
 use Rattle.rounding.specs.Load.{Load, Positive}
 use Rattle.rounding.proofs.Limited.{held_low}
 use Rattle.standard.specs.Coefficients.{drift_length, mu_projection}
@@ -80,11 +79,11 @@ module _ (factor h : ℕ) where
 
 module _ (factor h left right : ℕ) where
   pub projection_formed :
-      (sk : ℕ) → 0 < sk → ProjectionIn h left right
+      (sk : ℕ) → 0 < sk → 0 < left → 0 < right
       → WellFormed (projection factor sk h left right) (projection_count h left right) (4 * (left + right))
   unfolding projection projection_count
-  projection_formed sk hs f =
-      row_formed (projection_length h) left right (projection_length_positive h) f.left.low f.right.low
+  projection_formed sk hs a b =
+      row_formed (projection_length h) left right (projection_length_positive h) a b
       (projection_load factor sk h) (eight_tenths factor sk) (projection_load_positive factor h sk hs) (eight_tenths_positive factor sk)
       (ltb (projection_length h) left) (ltb (projection_length h) right) (ltb-true _ _) (ltb-false _ _) (ltb-true _ _) (ltb-false _ _)
 

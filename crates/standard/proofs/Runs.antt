@@ -8,6 +8,7 @@ use lib.ListN.{get_or}
 use native.Mathlib.Decide.{dec_le}
 use native.Mathlib.Nat.{eq-or-lt_of_le}
 use native.Mathlib.Omega.{arith}
+use Rattle.std.proofs.lemmas.Bool.{true≢false}
 use Rattle.figures.specs.Ranges.{within}
 use Rattle.figures.proofs.Laws.{within_in}
 use Rattle.rounding.specs.Fraction.{Fraction, over, Below, Same, Near}
@@ -319,7 +320,7 @@ unfolding start_of
 formed S n end some few each last = record { some = some; few = few; each = each; first = refl; joined = λ i. refl; last = last }
 
 pub outside : (low high x : ℕ) → within low high x ≡ false → low ≤ x → x ≤ high → ⊥
-outside low high x e a b = let z : ◌≡◌ {A = ℕ} 0 1 = cc (le-leb low x a, le-leb x high b) in omega arith
+outside low high x e a b = true≢false (rw (le-leb low x a, le-leb x high b) at e)
 
 -- every start of a run lies before its end
 pub starts_up : (S : ℕ → Stretch) (i k : ℕ) → start_of S i ≤ start_of S (i + k)

@@ -1,19 +1,21 @@
 -- The calls on figures ask a store for nothing but its refusal and the set in use: two stores alike for a job give the same answers.
 use Prim.Native.Nat.{ℕ}
 use mathlib.Core.List.{List}
+use Rattle.std.specs.Prelude.{Option}
 use mathlib.Core.Path.{◌≡◌, refl, ap}
 use Rattle.figures.specs.Refusals.{figures_refusal}
 use Rattle.figures.specs.Store.{begun_number, day_refusal, begun_figures, figures_in_use, SameFor}
 use Rattle.figures.specs.declared.national.National.{National}
-use Rattle.figures.specs.declared.site.JobDay.{JobDay}
 use Rattle.figures.specs.declared.site.Site.{Site}
+use Rattle.figures.specs.declared.slopes.Spans.{Spans}
+use Rattle.figures.specs.declared.roof.ProjectionRoof.{ProjectionRoof}
 use Rattle.figures.specs.declared.roof.Roof.{Roof}
 use Rattle.figures.specs.declared.roof.Shape.TheVariants.{Projection}
 use Rattle.standard.specs.Arrangements.{count_in, stretch_in}
 use Rattle.standard.specs.Answers.{after_rules, make_answer, load_answer}
 use Rattle.standard.specs.Forces.{overhang_answer, guard_answer}
 
-module _ (a b : List ℕ) (day : JobDay) (h : SameFor a b day) where
+module _ (a b : List ℕ) (day : Option ℕ) (h : SameFor a b day) where
   pub same_day : day_refusal a day ≡ day_refusal b day
   unfolding day_refusal
   same_day = ap begun_number h.set
@@ -44,8 +46,8 @@ module _ (a b : List ℕ) (site : Site) (roof : Roof) (h : SameFor a b site.day)
 
 -- "kind 7 keeps its own limits": no national figure reaches it, and the same holds of kinds 2, 3, 4 and 9, whose definitions take none
 pub projection_alone :
-    (m n : National) (h left right : ℕ) (spans : List ℕ) (factor sk code i : ℕ)
-    → (count_in m (Projection h left right) code ≡ count_in n (Projection h left right) code)
-    × (stretch_in m (Projection h left right) spans factor sk code i ≡ stretch_in n (Projection h left right) spans factor sk code i)
+    (m n : National) (p : ProjectionRoof) (spans : Spans) (factor sk code i : ℕ)
+    → (count_in m (Projection p) code ≡ count_in n (Projection p) code)
+    × (stretch_in m (Projection p) spans factor sk code i ≡ stretch_in n (Projection p) spans factor sk code i)
 unfolding count_in stretch_in
-projection_alone m n h left right spans factor sk code i = (refl, refl)
+projection_alone m n p spans factor sk code i = (refl, refl)

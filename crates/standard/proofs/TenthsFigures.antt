@@ -4,9 +4,11 @@ use mathlib.Core.Bool.{false}
 use mathlib.Core.List.{List, [], ◌∷◌}
 use mathlib.Core.Path.{◌≡◌, refl}
 use lib.ListN.{replicate}
-use Rattle.figures.specs.RoofRules.{roof_of, no_spans, slope_of}
-use Rattle.figures.specs.declared.site.JobDay.TheVariants.{Undated}
+use Rattle.std.specs.Prelude.{None}
+use Rattle.figures.specs.RoofRules.{roof_of}
+use Rattle.figures.specs.Spans.{flat, level, no_spans, slope_of}
 use Rattle.figures.specs.declared.site.Site.{Site}
+use Rattle.figures.specs.declared.slopes.Slope.{Slope}
 use Rattle.figures.specs.declared.roof.Shape.TheVariants.{MultiSpan, Abutting}
 use Rattle.figures.specs.declared.roof.Roof.{Roof}
 use Rattle.rounding.specs.Fraction.{sum}
@@ -22,16 +24,25 @@ use Rattle.standard.specs.MultiSpan.{own_load, valley_load, multi_span_from, mul
 use Rattle.standard.specs.Stretch.{load, read_in, start_of, segment, segments, holds, reading_at, greatest}
 use Rattle.standard.specs.ValleyDrift.{spans_stretch, spans_count}
 
+abbrev sloping : ℕ → ℕ → Slope
+sloping pitch width = record { pitch = pitch; width = width }
+
 abbrev site : ℕ → Site
-site sk = record { sk = sk; ce = 100; ct = 100; cesl = 200; situation = 0; altitude = 500; day = Undated }
+site sk = record { sk = sk; ce = 100; ct = 100; cesl = 200; situation = 0; altitude = 500; day = None }
 
 -- a roof below one whose slope has 20.0°
 abbrev lower : ℕ → ℕ → ℕ → ℕ → Roof
-lower b1 b2 h width = roof_of (Abutting b1 b2 h (record { pitch = 200; width = width }) 0 false) no_spans
+lower b1 b2 h width =
+    roof_of (Abutting (record { b1 = b1; b2 = b2; h = h; slope = record { slope = sloping 200 width; guard = 0 }; stepped = false })) no_spans
 
 -- two spans of 40.0°, 20.0°, 10.0° and 35.0°
 abbrev spans : Roof
-spans = roof_of (MultiSpan 2 false) (400 ∷ 4000 ∷ 200 ∷ 5000 ∷ 100 ∷ 6000 ∷ 350 ∷ 7000 ∷ replicate 86 0)
+spans =
+    roof_of (MultiSpan 2 false)
+    (record {
+      slopes = sloping 400 4000 ∷ sloping 200 5000 ∷ sloping 100 6000 ∷ sloping 350 7000 ∷ replicate 28 flat;
+      valleys = replicate 15 level;
+    })
 
 -- a load in whole N/m² and in tenths
 abbrev read : ℕ → Roof → ℕ → List ℕ

@@ -3,12 +3,12 @@
 use Prim.Native.Nat.{ℕ, zero, suc, ◌+◌, ◌*◌, ◌≤◌, ◌<◌}
 use mathlib.Core.Path.{◌≡◌, refl}
 use mathlib.Core.Bool.{Bool, true, false, cond, not, ◌||◌}
-use mathlib.Core.List.{List}
 use mathlib.Core.Logic.{⊎_elim}
 use borrow.Author.Tests.{not-false}
 use lib.Dec.{eqb}
 use native.Mathlib.Nat.{eq-or-lt_of_le}
 use native.Mathlib.Omega.{arith}
+use Rattle.figures.specs.declared.slopes.Spans.{Spans}
 use Rattle.figures.specs.Bounds.{MultiSpanIn}
 use Rattle.figures.specs.Ranges.{within}
 use Rattle.figures.proofs.Laws.{within_in}
@@ -25,7 +25,7 @@ use Rattle.standard.proofs.Runs.{Level, Rises, WellFormed, ramp_beside}
 pub named_in : (count code : ℕ) → names_valley count code ≡ true → suc (valley_named code) < count
 named_in count code h = omega (arith, within_in 31 (29 + count) code h)
 
-module _ (spans : List ℕ) where
+module _ (spans : Spans) where
   pub widths_up : (m n : ℕ) → m ≤ n → widths spans m ≤ widths spans n
   unfolding widths
   widths_up m zero h = let e : m ≡ 0 = omega arith in rw e (omega arith)

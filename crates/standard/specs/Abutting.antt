@@ -1,7 +1,7 @@
 -- Kind 6, 5.3.6: the roof is b2 long, with the wall at its left end. Code 1: 0.8. Code 2: from μs + μw at the wall to 0.8 at the
 -- drift length, then 0.8.
 use Rattle.std.specs.Prelude.{ℕ, zero, suc, ◌-◌, ◌*◌, min, Bool, true, false, cond, ltb}
-use Rattle.figures.specs.declared.roof.Slope.{Slope}
+use Rattle.figures.specs.declared.slopes.Slope.{Slope}
 use Rattle.rounding.specs.Load.{Load}
 use Rattle.standard.specs.Coefficients.{drift_length, mu_wind, mu_slide}
 use Rattle.standard.specs.Stretch.{Stretch, even, load, eight_tenths}

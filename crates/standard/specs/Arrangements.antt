@@ -4,6 +4,7 @@ use Rattle.std.specs.Prelude.{ℕ, suc, ◌+◌, ◌*◌, Bool, false, cond, not
 use Rattle.figures.specs.Ranges.{within}
 use Rattle.figures.specs.RoofRules.{kind_of, span_count}
 use Rattle.figures.specs.declared.site.Site.{Site}
+use Rattle.figures.specs.declared.slopes.Spans.{Spans}
 use Rattle.figures.specs.declared.roof.Shape.{Shape}
 use Rattle.figures.specs.declared.roof.Shape.TheVariants.{Monopitch, Pitched, MultiSpan, Cylindrical, Abutting, Projection}
 use Rattle.figures.specs.declared.roof.Roof.{Roof}
@@ -30,41 +31,41 @@ factor_of site code = site.ce * site.ct * exceptional_of site code
 
 -- the number of segments
 unfoldable pub count_in : National → Shape → ℕ → ℕ
-count_in national (Monopitch slope guard) code = 1
-count_in national (Pitched left right left_guard right_guard) code = 2
+count_in national (Monopitch slope) code = 1
+count_in national (Pitched left right) code = 2
 count_in national (MultiSpan count drifts) code = spans_count count code
-count_in national (Cylindrical rise span) code = cylindrical_count rise span (eqb code 1)
-count_in national (Abutting b1 b2 h slope guard stepped) code = abutting_count national b2 h (eqb code 1)
-count_in national (Projection h left right) code = projection_count h left right
+count_in national (Cylindrical arch) code = cylindrical_count arch.rise arch.span (eqb code 1)
+count_in national (Abutting lower) code = abutting_count national lower.b2 lower.h (eqb code 1)
+count_in national (Projection p) code = projection_count p.h p.left p.right
 
 -- the stretch at an index
-unfoldable pub stretch_in : National → Shape → List ℕ → ℕ → ℕ → ℕ → ℕ → Stretch
-stretch_in national (Monopitch slope guard) spans factor sk code i = monopitch factor sk slope guard i
-stretch_in national (Pitched left right left_guard right_guard) spans factor sk code i =
-    pitched factor sk left right left_guard right_guard code i
+unfoldable pub stretch_in : National → Shape → Spans → ℕ → ℕ → ℕ → ℕ → Stretch
+stretch_in national (Monopitch slope) spans factor sk code i = monopitch factor sk slope.slope slope.guard i
+stretch_in national (Pitched left right) spans factor sk code i =
+    pitched factor sk left.slope right.slope left.guard right.guard code i
 stretch_in national (MultiSpan count drifts) spans factor sk code i = spans_stretch factor sk spans count code i
-stretch_in national (Cylindrical rise span) spans factor sk code i = cylindrical national factor sk rise span (eqb code 1) i
-stretch_in national (Abutting b1 b2 h slope guard stepped) spans factor sk code i =
-    abutting national factor sk b1 b2 h slope guard (eqb code 1) i
-stretch_in national (Projection h left right) spans factor sk code i = projection factor sk h left right i
+stretch_in national (Cylindrical arch) spans factor sk code i = cylindrical national factor sk arch.rise arch.span (eqb code 1) i
+stretch_in national (Abutting lower) spans factor sk code i =
+    abutting national factor sk lower.b1 lower.b2 lower.h lower.slope.slope lower.slope.guard (eqb code 1) i
+stretch_in national (Projection p) spans factor sk code i = projection factor sk p.h p.left p.right i
 
 -- which stretches are ramps; every other is even. In a row that begins with its second stretch the index is one less
 unfoldable pub ramped_in : National → Shape → ℕ → ℕ → Bool
-ramped_in national (Monopitch slope guard) code i = false
-ramped_in national (Pitched left right left_guard right_guard) code i = false
+ramped_in national (Monopitch slope) code i = false
+ramped_in national (Pitched left right) code i = false
 ramped_in national (MultiSpan count drifts) code i = spans_ramped count code i
-ramped_in national (Cylindrical rise span) code i = not (eqb code 1) && within 1 4 (cond (ltb (loaded_width rise span) span) i (suc i))
-ramped_in national (Abutting b1 b2 h slope guard stepped) code i = not (eqb code 1) && eqb i 0
-ramped_in national (Projection h left right) code i = within 1 2 (cond (ltb (projection_length h) left) i (suc i))
+ramped_in national (Cylindrical arch) code i = not (eqb code 1) && within 1 4 (cond (ltb (loaded_width arch.rise arch.span) arch.span) i (suc i))
+ramped_in national (Abutting lower) code i = not (eqb code 1) && eqb i 0
+ramped_in national (Projection p) code i = within 1 2 (cond (ltb (projection_length p.h) p.left) i (suc i))
 
 -- the roof's length in quarter millimetres
-unfoldable pub end_in : Shape → List ℕ → ℕ
-end_in (Monopitch slope guard) spans = 4 * slope.width
-end_in (Pitched left right left_guard right_guard) spans = 4 * (left.width + right.width)
+unfoldable pub end_in : Shape → Spans → ℕ
+end_in (Monopitch slope) spans = 4 * slope.slope.width
+end_in (Pitched left right) spans = 4 * (left.slope.width + right.slope.width)
 end_in (MultiSpan count drifts) spans = 4 * widths spans (2 * count)
-end_in (Cylindrical rise span) spans = 4 * span
-end_in (Abutting b1 b2 h slope guard stepped) spans = 4 * b2
-end_in (Projection h left right) spans = 4 * (left + right)
+end_in (Cylindrical arch) spans = 4 * arch.span
+end_in (Abutting lower) spans = 4 * lower.b2
+end_in (Projection p) spans = 4 * (p.left + p.right)
 
 -- "An arrangement exists where these rules give its code to the roof in the site's situation" (document 01, words of demand 3)
 unfoldable pub exists : Site → Roof → ℕ → Bool

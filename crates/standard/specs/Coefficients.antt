@@ -2,7 +2,7 @@
 use Rattle.std.specs.Prelude.{ℕ, ◌+◌, ◌-◌, ◌*◌, cond, leb, ltb, eqb}
 use Rattle.rounding.specs.Fraction.{Fraction, over, sum}
 use Rattle.rounding.specs.Limit.{smaller, larger, held_to}
-use Rattle.figures.specs.declared.roof.Slope.{Slope}
+use Rattle.figures.specs.declared.slopes.Slope.{Slope}
 use Rattle.figures.specs.declared.national.National.{National}
 
 -- Table 5.2: μ1 is 0.8 up to 30°; 0.8(60 − α)/30 between; 0 from 60°

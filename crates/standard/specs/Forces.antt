@@ -1,9 +1,10 @@
 -- Local forces, kinds 2 and 3, persistent, in N/m: the overhang at an eave and the force at a guard.
-use Rattle.std.specs.Prelude.{ℕ, ◌+◌, ◌*◌, ◌<◌, max, cond, ◌&&◌, List, ltb, eqb}
+use Rattle.std.specs.Prelude.{ℕ, ◌+◌, ◌*◌, ◌<◌, max, cond, ◌&&◌, List, Option, Some, None, is_some, ltb, eqb}
 use Rattle.figures.specs.Refusals.{figures_refusal}
-use Rattle.figures.specs.Slopes.{SlopeAt, no_slope, some_slope, slope_at, present}
+use Rattle.figures.specs.Slopes.{slope_at}
 use Rattle.figures.specs.declared.site.Site.{Site}
-use Rattle.figures.specs.declared.roof.Slope.{Slope}
+use Rattle.figures.specs.declared.slopes.Slope.{Slope}
+use Rattle.figures.specs.declared.slopes.GuardedSlope.{GuardedSlope}
 use Rattle.figures.specs.declared.roof.Shape.{Shape}
 use Rattle.figures.specs.declared.roof.Roof.{Roof}
 use Rattle.rounding.specs.Fraction.{Fraction, over, AtMost, Under}
@@ -23,13 +24,13 @@ unfoldable pub whole_load : Site → Slope → ℕ → ℕ
 whole_load site slope guard = break_load 1 (slope_load site slope guard)
 
 -- the same at a slope by its number, unrounded and whole: a slope that isn't there carries nothing
-unfoldable pub unrounded_at : Site → SlopeAt → Fraction
-unrounded_at site no_slope = over 0 1
-unrounded_at site (some_slope slope guard) = exact (slope_load site slope guard)
+unfoldable pub unrounded_at : Site → Option GuardedSlope → Fraction
+unrounded_at site None = over 0 1
+unrounded_at site (Some slope) = exact (slope_load site slope.slope slope.guard)
 
-unfoldable pub whole_at : Site → SlopeAt → ℕ
-whole_at site no_slope = 0
-whole_at site (some_slope slope guard) = whole_load site slope guard
+unfoldable pub whole_at : Site → Option GuardedSlope → ℕ
+whole_at site None = 0
+whole_at site (Some slope) = whole_load site slope.slope slope.guard
 
 -- 6.3, document 02, A5: "s is the most onerous undrifted load for the roof", the larger of the two slopes' S, unrounded and whole; kind 2
 -- has slope 1 alone
@@ -64,17 +65,17 @@ pub data Force : Type 0 where
 -- above 800 m, at a slope that the roof has; "On kind 3 the overhang at either eave now uses the larger of the two slopes' S"
 unfoldable pub overhang_at : Site → Shape → ℕ → Force
 overhang_at site shape n =
-    cond (present (slope_at shape n) && ltb 800 site.altitude) (force (overhang_force (larger_whole site shape))) none
+    cond (is_some (slope_at shape n) && ltb 800 site.altitude) (force (overhang_force (larger_whole site shape))) none
 
 unfoldable pub overhang_answer : List ℕ → Site → Roof → ℕ → Force
 overhang_answer store site roof n =
     cond (eqb (figures_refusal store site roof) 0) (overhang_at site roof.shape n) (refused (figures_refusal store site roof))
 
 -- "The guard force keeps its own slope's S": at a slope that the roof has and that has a guard
-unfoldable pub guard_at : Site → SlopeAt → Force
-guard_at site no_slope = none
-guard_at site (some_slope slope guard) =
-    cond (eqb guard 1) (force (guard_force (whole_load site slope guard) slope.width slope.pitch)) none
+unfoldable pub guard_at : Site → Option GuardedSlope → Force
+guard_at site None = none
+guard_at site (Some slope) =
+    cond (eqb slope.guard 1) (force (guard_force (whole_load site slope.slope slope.guard) slope.slope.width slope.slope.pitch)) none
 
 unfoldable pub guard_answer : List ℕ → Site → Roof → ℕ → Force
 guard_answer store site roof n =
@@ -88,9 +89,9 @@ pub record OverhangNear (r : ℕ) (f : Fraction) : Type 0 where
 
 -- "never below the rule over the unrounded S and less than 10 above", of what is answered at a slope; "The distance of 10 N/m still applies,
 -- from the larger unrounded S" (document 02, A5), which stands for s; there is no force at a slope that isn't there
-abbrev pub overhang_distance : Force → Fraction → SlopeAt → Type 0
-overhang_distance (force r) s (some_slope slope guard) = OverhangNear r (overhang_rule s)
-overhang_distance (force r) s no_slope = ⊥
+abbrev pub overhang_distance : Force → Fraction → Option GuardedSlope → Type 0
+overhang_distance (force r) s (Some slope) = OverhangNear r (overhang_rule s)
+overhang_distance (force r) s None = ⊥
 overhang_distance none s at = Unit
 overhang_distance (refused number) s at = Unit
 
@@ -101,9 +102,10 @@ pub record GuardNear (r width : ℕ) (f : Fraction) : Type 0 where
   pub high : r * f.den * 1000 < f.num * 1000 + (width + 3000) * f.den
 
 -- "less than 2 below and less than the width in metres plus 3 above the rule over the unrounded S and the reference", of what is answered
-abbrev pub guard_distance : Force → Site → SlopeAt → Type 0
-guard_distance (force r) site (some_slope slope guard) =
-    GuardNear r slope.width (guard_rule (exact (slope_load site slope guard)) slope.width (sine_reference slope.pitch))
-guard_distance (force r) site no_slope = ⊥
+abbrev pub guard_distance : Force → Site → Option GuardedSlope → Type 0
+guard_distance (force r) site (Some slope) =
+    GuardNear r slope.slope.width
+    (guard_rule (exact (slope_load site slope.slope slope.guard)) slope.slope.width (sine_reference slope.slope.pitch))
+guard_distance (force r) site None = ⊥
 guard_distance none site at = Unit
 guard_distance (refused number) site at = Unit

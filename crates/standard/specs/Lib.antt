@@ -1,7 +1,6 @@
 pub mod Abutting
 pub mod Answers
 pub mod Arrangements
-pub mod Bounds
 pub mod Codes
 pub mod Coefficients
 pub mod Cylindrical

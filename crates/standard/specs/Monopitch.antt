@@ -1,6 +1,6 @@
 -- Kind 2, 5.3.2: the slope's μ1 all along.
 use Rattle.std.specs.Prelude.{ℕ, ◌*◌}
-use Rattle.figures.specs.declared.roof.Slope.{Slope}
+use Rattle.figures.specs.declared.slopes.Slope.{Slope}
 use Rattle.standard.specs.Coefficients.{slope_mu}
 use Rattle.standard.specs.Stretch.{Stretch, even, load_alone}
 

@@ -1,7 +1,7 @@
 -- The shape coefficients over one denominator each: the numerators that code computes. Each is proved to be the coefficient of
 -- `Coefficients` in proofs/Numerators.
 use Rattle.std.specs.Prelude.{ℕ, ◌+◌, ◌-◌, ◌*◌, min, max, cond, leb}
-use Rattle.figures.specs.declared.roof.Slope.{Slope}
+use Rattle.figures.specs.declared.slopes.Slope.{Slope}
 use Rattle.figures.specs.declared.national.National.{National}
 
 -- 375 × μ1

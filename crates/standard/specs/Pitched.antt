@@ -1,6 +1,6 @@
 -- Kind 3, 5.3.3: code 1 has each slope's μ1; code 2 halves the left, code 3 the right.
 use Rattle.std.specs.Prelude.{ℕ, zero, suc, ◌*◌, Bool, cond, eqb}
-use Rattle.figures.specs.declared.roof.Slope.{Slope}
+use Rattle.figures.specs.declared.slopes.Slope.{Slope}
 use Rattle.rounding.specs.Fraction.{Fraction, over}
 use Rattle.standard.specs.Coefficients.{slope_mu}
 use Rattle.standard.specs.Stretch.{Stretch, even, load_alone}

@@ -1,8 +1,8 @@
-// Lines of stored cases: words and whole numbers, and the site and the roof that they give.
+// Lines of stored cases, each read as what it gives or what it asks.
 #![tactic(auto)]
 
-mod given;
+mod line;
+mod roofs;
 mod words;
 
-pub use given::{byte, day_of, fits, roof_of, site_of};
-pub use words::{behind, count_of, number, word_of};
+pub use line::{Case, Job, Line, Pitches, Question, UnreadableLine};

@@ -5,14 +5,16 @@
 ghost use Rattle.std.specs.Prelude.{◌≡◌, ◌≤◌, length};
 ghost use Rattle.added_sets.specs.Adding.{add_answer, store_after};
 ghost use Rattle.listing.specs.Listing.{listed, bytes_after};
+ghost use Rattle.figures.specs.Refusal.{numbered};
 ghost use Rattle.sheet_figures.specs.Find.{found};
 ghost use Rattle.ceilings.specs.Ceilings.{terminals, desk};
 ghost use Rattle.sheet.specs.Sheet.{sheet_verdict};
-ghost use Rattle.answer_codes.specs.Codes.{verdict_code, ground_code, added_code};
+ghost use Rattle.answer_codes.specs.Codes.{answer_code, alone_code};
 ghost use Rattle.map_sites.specs.Sites.{ground_answer};
 ghost use Rattle.item_answers.specs.Calls.{make_code, slice_after, load_code, overhang_code, guard_code};
 
 use added_sets::add_set;
+use answer_codes::{alone, count, force, number};
 use item_answers::{guard_force_at, load_at, make_at, overhang_at};
 use map_sites::ground_load;
 use sheet::{Caller, verdict};
@@ -21,17 +23,17 @@ use sheet_figures::find;
 // The count of a sheet's items, or a refusal.
 #[unsafe(no_mangle)]
 pub extern "C" fn snow_verdict(store: &[u32], sheet: &[u8]) -> u32
-    ensures { result ≡ verdict_code (sheet_verdict store.now terminals sheet.now) }
+    ensures { result ≡ answer_code (sheet_verdict store.now terminals sheet.now) }
 {
-    answer_codes::verdict(verdict(store, sheet, Caller::Terminal))
+    count(verdict(store, sheet, Caller::Terminal))
 }
 
 // The same for the quote desk, whose ceiling is lower: the count of a sheet's items, or a refusal.
 #[unsafe(no_mangle)]
 pub extern "C" fn snow_desk_verdict(store: &[u32], sheet: &[u8]) -> u32
-    ensures { result ≡ verdict_code (sheet_verdict store.now desk sheet.now) }
+    ensures { result ≡ answer_code (sheet_verdict store.now desk sheet.now) }
 {
-    answer_codes::verdict(verdict(store, sheet, Caller::Desk))
+    count(verdict(store, sheet, Caller::Desk))
 }
 
 // The count of segments of an item's arrangement, which are at the front of the slice; or a refusal, which alters nothing.
@@ -46,7 +48,7 @@ pub extern "C" fn snow_make(
     ensures value { result ≡ make_code (found store.now sheet.now item) item code (length out.old) }
     ensures out_after { out.new ≡ slice_after (found store.now sheet.now item) code out.old }
 {
-    make_at(find(store, sheet, item), item, code, out)
+    count(make_at(find(store, sheet, item), item, code, out))
 }
 
 // The load at a station of an item's arrangement, or a refusal.
@@ -54,7 +56,7 @@ pub extern "C" fn snow_make(
 pub extern "C" fn snow_load(store: &[u32], sheet: &[u8], item: usize, code: u8, station: u32) -> u32
     ensures { result ≡ load_code (found store.now sheet.now item) item code station }
 {
-    load_at(find(store, sheet, item), item, code, station)
+    number(load_at(find(store, sheet, item), item, code, station))
 }
 
 // The overhang at a slope of an item, none, or a refusal.
@@ -62,7 +64,7 @@ pub extern "C" fn snow_load(store: &[u32], sheet: &[u8], item: usize, code: u8, 
 pub extern "C" fn snow_overhang(store: &[u32], sheet: &[u8], item: usize, slope: u8) -> u32
     ensures { result ≡ overhang_code (found store.now sheet.now item) item slope }
 {
-    overhang_at(find(store, sheet, item), item, slope)
+    force(overhang_at(find(store, sheet, item), item, slope))
 }
 
 // The force at the guard of a slope of an item, none, or a refusal.
@@ -70,7 +72,7 @@ pub extern "C" fn snow_overhang(store: &[u32], sheet: &[u8], item: usize, slope:
 pub extern "C" fn snow_guard_force(store: &[u32], sheet: &[u8], item: usize, slope: u8) -> u32
     ensures { result ≡ guard_code (found store.now sheet.now item) item slope }
 {
-    guard_force_at(find(store, sheet, item), item, slope)
+    force(guard_force_at(find(store, sheet, item), item, slope))
 }
 
 // The bytes of a sheet's listing, which is at the front of the lent bytes; 0, and nothing is written, where they are
@@ -88,16 +90,16 @@ pub extern "C" fn snow_list(store: &[u32], sheet: &[u8], out: &mut [u8]) -> usiz
 // The ground load of a region, a zone and an altitude by the map, or a refusal.
 #[unsafe(no_mangle)]
 pub extern "C" fn snow_ground_load(region: u8, zone: u8, altitude: u16) -> u32
-    ensures { result ≡ ground_code (ground_answer region zone altitude) }
+    ensures { result ≡ alone_code (ground_answer region zone altitude) }
 {
-    answer_codes::ground(ground_load(region, zone, altitude))
+    alone(ground_load(region, zone, altitude))
 }
 
 // The count of a store's sets with one more, given by its six numbers; or a refusal, which alters nothing.
 #[unsafe(no_mangle)]
 pub extern "C" fn snow_add_set(store: &mut [u32], set: &[u32]) -> u32
-    ensures value { result ≡ added_code (add_answer store.old set.now) }
+    ensures value { result ≡ alone_code (numbered (add_answer store.old set.now)) }
     ensures store_after { store.new ≡ store_after store.old set.now }
 {
-    answer_codes::added(add_set(store, set))
+    alone(add_set(store, set))
 }

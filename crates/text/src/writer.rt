@@ -43,7 +43,7 @@ impl<'a> Writer<'a> {
         ensures { Wrote self.old (decimal number) self.new }
     {
         let end = self.at + digit_count(number);
-        write_digits(number as u64, self.bytes, end);
+        write_digits(u64::from(number), self.bytes, end);
         self.at = end;
     }
 

@@ -1,13 +1,13 @@
 // The quote desk's reading of a sheet with a store, beside a terminal's: the verdict, where each item lies, and each item.
-use crate::answers::{Refused, locate, verdict};
-use sheet::{Caller, item};
+use figures::Refusal;
+use sheet::{Caller, Refused, item, locate, verdict};
 
 // The indexes that are asked for: those of the fullest sheet and two more.
 const INDEXES: usize = 34;
 
 // The answer to a sheet that passes the ceiling: 1, item 0.
 const PASSED: Refused = Refused {
-    refusal: 1,
+    refusal: Refusal::SheetLimits,
     item: 0,
 };
 

@@ -2,13 +2,9 @@
 ghost use Rattle.std.specs.Prelude.{◌≡◌, ◌↔◌, ◌≤◌, IsTrue, length, replicate};
 ghost use Rattle.listing.specs.Listing.{listing, list_room};
 
-use crate::answers::verdict;
 use crate::desk;
 use crate::records::Record;
-use sheet::Caller;
-
-// How many numbers a store has.
-const STORE_NUMBERS: usize = 193;
+use sheet::{Caller, verdict};
 
 // Whether the library refuses the sheet, and whether its listing of it is the stored text; whether the sheet is inside the
 // quote desk's ceiling, and whether the desk reads it as it must.
@@ -42,7 +38,7 @@ pub fn compare(stored: Record<'_>, room: &mut [u8]) -> Outcome
     requires { list_room ≤ length room.old }
     ensures { IsTrue result.agrees ↔ (listing (replicate 193 0) stored.entry.sheet.now ≡ stored.entry.text.now) }
 {
-    let store = [0; STORE_NUMBERS];
+    let store = [0; listing::STORE_NUMBERS];
     let sheet = stored.sheet;
     Outcome {
         refused: verdict(&store, sheet, Caller::Terminal).is_err(),

@@ -2,7 +2,6 @@
 // quote desk's reading of it against a terminal's.
 #![tactic(auto)]
 
-mod answers;
 mod desk;
 mod listed;
 mod records;

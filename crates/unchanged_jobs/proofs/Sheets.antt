@@ -4,14 +4,15 @@ use mathlib.Core.Bool.{Bool, true, false, cond}
 use mathlib.Core.List.{List}
 use mathlib.Core.Path.{◌≡◌, refl, ap, fun_ext, ◌∙◌}
 use lib.Dec.{eqb}
+use Rattle.std.specs.Prelude.{Result, Ok, Err}
 use Rattle.ceilings.specs.Ceilings.{terminals}
 use Rattle.ceilings.specs.declared.Ceiling.{Ceiling}
+use Rattle.figures.specs.declared.refusal.Refusal.{Refusal}
 use Rattle.figures.specs.Store.{set_count, store_refusal, SameFor}
 use Rattle.item_forms.specs.declared.Item.{Item}
-use Rattle.item_forms.specs.declared.Item.TheVariants.{SiteItem, RoofItem, LowerItem, Malformed}
+use Rattle.item_forms.specs.declared.Item.TheVariants.{SiteItem, RoofItem, LowerItem}
 use Rattle.item_rules.specs.Figures.{site_by}
-use Rattle.item_rules.specs.Rules.{job_refusal, rule_number}
-use Rattle.items.specs.Items.{content}
+use Rattle.item_rules.specs.Rules.{job_refusal, rule_by}
 use Rattle.listing.specs.Listing.{listing_by, listing}
 use Rattle.pairs.specs.Pairs.{Answer, accepted, refused, and_then, part}
 use Rattle.sheet.specs.Sheet.{Place, item_number, rules_verdict, store_verdict, sheet_verdict, place_by, place}
@@ -25,24 +26,24 @@ uncounted true m n k v = refl
 uncounted false m n k v = refl
 
 module _ (a b : List ℕ) where
-  first_rule : (x : Item) (l : List ℕ) → SameFor a b (site_by x).day → rule_number a 0 x l ≡ rule_number b 0 x l
+  first_rule : (p : List ℕ) (x : Result Item Refusal) → SameFor a b (site_by x).day → rule_by a 0 p x ≡ rule_by b 0 p x
   unfolding job_refusal
-  first_rule (SiteItem fields) l h = rw (same_day a b fields.day h)
-  first_rule (RoofItem shape) l h = refl
-  first_rule (LowerItem lower) l h = refl
-  first_rule (Malformed number) l h = refl
+  first_rule p (Ok (SiteItem fields)) h = rw (same_day a b fields.day h)
+  first_rule p (Ok (RoofItem shape)) h = refl
+  first_rule p (Ok (LowerItem lower)) h = refl
+  first_rule p (Err refusal) h = refl
 
-  later_rule : (i : ℕ) (x : Item) (l : List ℕ) → rule_number a (suc i) x l ≡ rule_number b (suc i) x l
-  later_rule i (SiteItem fields) l = refl
-  later_rule i (RoofItem shape) l = refl
-  later_rule i (LowerItem lower) l = refl
-  later_rule i (Malformed number) l = refl
+  later_rule : (i : ℕ) (p : List ℕ) (x : Result Item Refusal) → rule_by a (suc i) p x ≡ rule_by b (suc i) p x
+  later_rule i p (Ok (SiteItem fields)) = refl
+  later_rule i p (Ok (RoofItem shape)) = refl
+  later_rule i p (Ok (LowerItem lower)) = refl
+  later_rule i p (Err refusal) = refl
 
 module _ (a b s : List ℕ) (h : SameFor a b (sheet_site s).day) where
   same_number : (i : ℕ) → item_number a s i ≡ item_number b s i
   unfolding item_number sheet_site
-  same_number zero = first_rule a b (item_at s 0) (content (part s 0)).spans h
-  same_number (suc i) = later_rule a b i (item_at s (suc i)) (content (part s (suc i))).spans
+  same_number zero = first_rule a b (part s 0) (item_at s 0) h
+  same_number (suc i) = later_rule a b i (part s (suc i)) (item_at s (suc i))
 
   same_rules : (ceiling : Ceiling) → rules_verdict a ceiling s ≡ rules_verdict b ceiling s
   unfolding rules_verdict
@@ -65,8 +66,7 @@ module _ (a b s : List ℕ) (h : SameFor a b (sheet_site s).day) where
 
   found_at : (v : Answer Place) (i : ℕ) → found_by v a s i ≡ found_by v b s i
   found_at (refused number item) i = refl
-  found_at (accepted p) zero = rw same_national
-  found_at (accepted p) (suc i) = rw same_national
+  found_at (accepted p) i = rw same_national
 
   pub same_found : (i : ℕ) → found a s i ≡ found b s i
   unfolding found

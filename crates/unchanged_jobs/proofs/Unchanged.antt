@@ -4,7 +4,7 @@ use mathlib.Core.List.{List}
 use mathlib.Core.Path.{ap}
 use Rattle.added_sets.proofs.Unchanged.{unchanged_before}
 use Rattle.added_sets.specs.Adding.{store_after, JobBefore}
-use Rattle.answer_codes.specs.Codes.{verdict_code}
+use Rattle.answer_codes.specs.Codes.{answer_code}
 use Rattle.roof_arrangements.specs.Arrangement.{contents}
 use Rattle.ceilings.specs.Ceilings.{ceiling_of}
 use Rattle.figures.specs.Store.{set_from, SameFor}
@@ -15,8 +15,7 @@ use Rattle.item_answers.specs.Calls.{make_code, slice_after, load_code, overhang
 use Rattle.listing.specs.Listing.{listed, bytes_after}
 use Rattle.pairs.specs.Pairs.{Answer}
 use Rattle.sheet.specs.Sheet.{Place, part_at}
-use Rattle.sheet_figures.specs.Find.{sheet_site}
-use Rattle.sheet_figures.specs.declared.Found.{Found}
+use Rattle.sheet_figures.specs.Find.{AtIndex, sheet_site}
 use Rattle.standard.proofs.Stores.{same_figures, same_make, same_load, same_overhang, same_guard}
 use Rattle.unchanged_jobs.specs.Alike.{FiguresAlike, SheetAlike}
 use Rattle.unchanged_jobs.proofs.Sheets.{same_verdict, same_place, same_found, same_listing}
@@ -40,12 +39,12 @@ sheet_alike a b s h =
       items = λ caller i. ap (λ (p : Answer Place). part_at p s) (same_place a b s h (ceiling_of caller) i);
       figures = same_found a b s h;
       text = same_listing a b s h;
-      snow_verdict = λ caller. ap verdict_code (same_verdict a b s h (ceiling_of caller));
-      snow_make = λ item code room. ap (λ (f : Found). make_code f item code room) (same_found a b s h item);
-      snow_slice = λ item code old. ap (λ (f : Found). slice_after f code old) (same_found a b s h item);
-      snow_load = λ item code station. ap (λ (f : Found). load_code f item code station) (same_found a b s h item);
-      snow_overhang = λ item slope. ap (λ (f : Found). overhang_code f item slope) (same_found a b s h item);
-      snow_guard_force = λ item slope. ap (λ (f : Found). guard_code f item slope) (same_found a b s h item);
+      snow_verdict = λ caller. ap answer_code (same_verdict a b s h (ceiling_of caller));
+      snow_make = λ item code room. ap (λ (f : Answer AtIndex). make_code f item code room) (same_found a b s h item);
+      snow_slice = λ item code old. ap (λ (f : Answer AtIndex). slice_after f code old) (same_found a b s h item);
+      snow_load = λ item code station. ap (λ (f : Answer AtIndex). load_code f item code station) (same_found a b s h item);
+      snow_overhang = λ item slope. ap (λ (f : Answer AtIndex). overhang_code f item slope) (same_found a b s h item);
+      snow_guard_force = λ item slope. ap (λ (f : Answer AtIndex). guard_code f item slope) (same_found a b s h item);
       snow_list = λ room. rw (same_listing a b s h);
       snow_bytes = λ old. rw (same_listing a b s h);
     }

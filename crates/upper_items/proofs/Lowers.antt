@@ -1,6 +1,6 @@
 -- What the loops over a sheet's items find of lower roofs and their upper items.
-use Prim.Native.Nat.{ℕ, zero, suc, ◌+◌, ◌-◌, ◌<◌}
-use mathlib.Core.Bool.{true, false}
+use Prim.Native.Nat.{ℕ, zero, suc, ◌+◌, ◌-◌, ◌≤◌, ◌<◌}
+use mathlib.Core.Bool.{Bool, true, false, ◌||◌}
 use mathlib.Core.List.{List, ◌++◌}
 use mathlib.Core.Logic.{⊎_elim}
 use mathlib.Core.Path.{◌≡◌, refl, sym, ap, fun_ext, ◌∙◌}
@@ -9,49 +9,50 @@ use lib.Dec.{ltb, eqb}
 use lib.ListN.{length, drop, set, replicate, length-set}
 use lib.Seq.{get_or-set_same, get_or-set_other}
 use native.Mathlib.Nat.{eq-or-lt_of_le}
-use native.Mathlib.Numerals.{add-one}
 use native.Mathlib.Omega.{arith}
 use Rattle.little_endian.specs.Numbers.{byte_at}
+use Rattle.std.specs.Prelude.{Result, Ok, Err}
+use Rattle.std.specs.List.{list_any, range_with_len}
+use Rattle.figures.specs.declared.refusal.Refusal.{Refusal}
 use Rattle.item_forms.specs.declared.Item.{Item}
-use Rattle.item_forms.specs.declared.Item.TheVariants.{SiteItem, RoofItem, LowerItem, Malformed}
+use Rattle.item_forms.specs.declared.Item.TheVariants.{SiteItem, RoofItem, LowerItem}
 use Rattle.items.specs.Items.{content}
 use Rattle.items.proofs.Lowers.{lower_fields}
 use Rattle.circles.specs.Following.{upper_in}
-use Rattle.figures.proofs.Tests.{told, clash, or_right}
-use Rattle.order.specs.Order.{order, up_to}
+use Rattle.figures.proofs.Tests.{told, clash}
+use Rattle.order.specs.Order.{up_to}
 use Rattle.order.proofs.Listing.{in_turn_lem, upto_length}
 use Rattle.order.proofs.Writing.{all_alike}
 use Rattle.item_forms.specs.Forms.{is_lower}
 use Rattle.upper_items.specs.Uppers.{item_at, upper_index, upper, stepped_in, roof_order}
 
 -- the byte of an upper item's index
-pub upper_byte : (p : List ℕ) → is_lower (content p).item ≡ true → byte_at p 9 ≡ upper_index (content p).item
-upper_byte p e = ap upper_index (lower_fields p e)
+pub upper_byte : (p : List ℕ) → is_lower (content p) ≡ true → byte_at p 9 ≡ upper_index (content p)
+upper_byte p e = sym (ap upper_index (lower_fields p e))
 
 -- any other item has no upper item
-pub no_upper : (x : Item) → is_lower x ≡ false → 0 ≡ upper_index x
-no_upper (SiteItem fields) e = refl
-no_upper (RoofItem shape) e = refl
-no_upper (LowerItem lower) e = clash refl e
-no_upper (Malformed number) e = refl
+pub no_upper : (x : Result Item Refusal) → is_lower x ≡ false → 0 ≡ upper_index x
+no_upper (Ok (SiteItem fields)) e = refl
+no_upper (Ok (RoofItem shape)) e = refl
+no_upper (Ok (LowerItem lower)) e = clash refl e
+no_upper (Err refusal) e = refl
+
+-- where no index of a range passes a test, none of them does
+neither : (a b : Bool) → (a || b) ≡ false → (a ≡ false) × (b ≡ false)
+neither true b h = clash refl h
+neither false b h = (refl, h)
+
+none_of : (test : ℕ → Bool) (a n i : ℕ) → list_any test (range_with_len a n) ≡ false → a ≤ i → i < a + n → test i ≡ false
+none_of test a zero i e p q = absurd (omega arith)
+none_of test a (suc n) i e p q =
+    let f = neither (test a) (list_any test (range_with_len (a + 1) n)) e in
+    ⊎_elim (λ (w : a ≡ i). rw w at f.0) (λ (w : a < i). none_of test (a + 1) n i f.1 (omega arith) (omega arith)) (eq-or-lt_of_le p)
 
 -- one of the items is a lower roof, or none is
 module _ (s : List ℕ) where
-  pub stepped_at_lem : (n i : ℕ) → i < n → is_lower (item_at s i) ≡ true → true ≡ stepped_in s n
-  unfolding stepped_in
-  stepped_at_lem zero i h e = absurd (omega arith)
-  stepped_at_lem (suc n) i h e =
-      ⊎_elim (λ (w : i ≡ n). sym (or_right (stepped_in s n) (is_lower (item_at s n)) (rw (← w) e)))
-      (λ (w : i < n). rw (← stepped_at_lem n i w e)) (eq-or-lt_of_le {n = i} {m = n} (omega arith))
-
-  pub stepped_next : (i : ℕ) → stepped_in s i ≡ false → is_lower (item_at s i) ≡ false → stepped_in s (i + 1) ≡ false
-  unfolding stepped_in
-  stepped_next i e f = rw (add-one i, stepped_in, e, f)
-
   pub none_stepped : (n i : ℕ) → stepped_in s n ≡ false → i < n → is_lower (item_at s i) ≡ false
-  none_stepped n i e h =
-      ⊎_elim (λ (t : is_lower (item_at s i) ≡ true). clash (sym (stepped_at_lem n i h t)) e) (λ (t : is_lower (item_at s i) ≡ false). t)
-      (told (is_lower (item_at s i)))
+  unfolding stepped_in
+  none_stepped n i e h = none_of (λ j. is_lower (item_at s j)) 0 n i e (omega arith) (omega arith)
 
   pub none_above : (n : ℕ) → stepped_in s n ≡ false → (i : ℕ) → i < n → upper s n i ≡ 0
   unfolding upper
@@ -86,11 +87,6 @@ filled_turn {s} {i} {table} {x} w h e = record { size = length-set table i x ∙
 
 -- the order, as it is written into a table of zeros
 module _ (s : List ℕ) (n : ℕ) (out : List ℕ) where
-  pub order_written :
-      (table : List ℕ) (r : ℕ) → upper_in table ≡ upper s n → r ≡ length (order (upper_in table) n) → out ≡ order (upper_in table) n ++ drop r (replicate 32 0)
-      → out ≡ roof_order s n ++ drop (length (roof_order s n)) (replicate 32 0)
-  order_written table r e f g = g ∙ rw (f, e)
-
   -- without a lower roof it is that of the indexes
   pub index_written :
       stepped_in s n ≡ false → out ≡ up_to (n - 1) ++ drop (n - 1) (replicate 32 0)

@@ -1,15 +1,14 @@
 // The upper items of a sheet's items, and the order in which its roofs are listed.
 #![tactic(auto)]
 
-ghost use Rattle.std.specs.Prelude.{◌≡◌, ◌++◌, ◌≤◌, length, drop, replicate};
+ghost use Rattle.std.specs.Prelude.{◌≡◌, ◌++◌, length, drop, replicate};
 ghost use Rattle.circles.specs.Following.{upper_in};
 ghost use Rattle.items.specs.Items.{content};
-ghost use Rattle.pairs.specs.Pairs.{PartsIn};
 ghost use Rattle.upper_items.specs.Uppers.{upper_index, upper, stepped_in, roof_order};
 
 use items::is_lower;
 use order::{list_by_index, list_order};
-use pairs::part_at;
+use pairs::Items;
 
 // The most items that a sheet has.
 pub const ITEMS: usize = 32;
@@ -18,52 +17,41 @@ pub const ITEMS: usize = 32;
 // decoded here.
 const UPPER_BYTE: usize = 9;
 
-// The index of an item's upper item, 0 where it has none.
+// The index of an item's upper item. 0, the site's index, says none: no roof stands below the site.
 pub fn upper_index(p: &[u8]) -> u8
-    ensures { result ≡ upper_index (content p.now).item }
+    ensures { result ≡ upper_index (content p.now) }
 {
     if is_lower(p) { p[UPPER_BYTE] } else { 0 }
 }
 
-// Whether one of the n items is a lower roof.
-pub fn has_lower(s: &[u8], n: usize) -> bool
-    requires { PartsIn s.now n }
-    ensures { result ≡ stepped_in s.now n }
+// Whether one of the items is a lower roof.
+#[tactic(auto, unfolding(crate::specs::Uppers::stepped_in))]
+pub fn has_lower(items: Items) -> bool
+    ensures { result ≡ stepped_in items.entry.sheet.now items.entry.count }
 {
-    let mut i = 0;
-    while i < n {
-        if is_lower(part_at(s, i)) {
-            return true;
-        }
-        i += 1;
-    }
-    false
+    (0..items.count()).any(|i| is_lower(items.part(i)))
 }
 
-// The upper item of each of the n items.
-pub fn uppers(s: &[u8], n: usize) -> [u8; ITEMS]
-    requires { PartsIn s.now n × (n ≤ 32) }
-    ensures { upper_in result ≡ upper s.now n }
+// The upper item of each of the items.
+pub fn uppers(items: Items) -> [u8; ITEMS]
+    ensures { upper_in result ≡ upper items.entry.sheet.now items.entry.count }
 {
-    let mut table = [0u8; ITEMS];
-    let mut i = 0;
-    while i < n {
-        table[i] = upper_index(part_at(s, i));
-        i += 1;
+    let mut table = [0; ITEMS];
+    for i in 0..items.count() {
+        table[i] = upper_index(items.part(i));
     }
     table
 }
 
-// The roofs of a sheet of n items in the order of the listing, and zeros behind them.
-pub fn roof_order(s: &[u8], n: usize) -> [u8; ITEMS]
-    requires { PartsIn s.now n × (n ≤ 32) }
-    ensures { result ≡ roof_order s.now n ++ drop (length (roof_order s.now n)) (replicate 32 0) }
+// The roofs of a sheet in the order of the listing, and zeros behind them.
+pub fn roof_order(items: Items) -> [u8; ITEMS]
+    ensures { let roofs = roof_order items.entry.sheet.now items.entry.count in result ≡ roofs ++ drop (length roofs) (replicate 32 0) }
 {
-    let mut roofs = [0u8; ITEMS];
-    if has_lower(s, n) {
-        list_order(&uppers(s, n), n, &mut roofs);
+    let mut roofs = [0; ITEMS];
+    if has_lower(items) {
+        list_order(&uppers(items), items.count(), &mut roofs);
     } else {
-        list_by_index(n, &mut roofs);
+        list_by_index(items.count(), &mut roofs);
     }
     roofs
 }

@@ -3,38 +3,16 @@ use Prim.Native.Nat.{ℕ, zero, suc, ◌+◌, ◌-◌, ◌≤◌, ◌<◌}
 use mathlib.Core.Bool.{Bool, true, false, cond}
 use mathlib.Core.List.{List}
 use mathlib.Core.Path.{◌≡◌, refl, sym, ap, ◌∙◌}
-use borrow.Author.Tests.{lt-ltb, le-ltb}
 use lib.Dec.{ltb}
 use native.Mathlib.Omega.{arith}
 use Rattle.figures.specs.Rules.{refused_if}
-use Rattle.stepped_roofs.specs.Stepped.{is_upper}
 use Rattle.pairs.specs.Pairs.{accepted, refused, in_turn}
 use Rattle.circles.specs.Following.{upper_in, comes_back}
 use Rattle.circles.proofs.Turns.{none_met}
 use Rattle.item_forms.specs.Forms.{is_lower}
 use Rattle.upper_items.specs.Uppers.{item_at, upper_index, upper, stepped_in}
 use Rattle.upper_items.proofs.Lowers.{no_upper, none_stepped, none_above}
-use Rattle.upper_rules.specs.UpperRules.{may_stand_above, upper_number, circle_number, uppers_verdict}
-
-module _ (s : List ℕ) (n i : ℕ) where
-  pub past_last : n ≤ i → false ≡ may_stand_above s n i
-  past_last h = rw (le-ltb i n h)
-
-  pub one_of_them : i < n → is_upper (item_at s i) ≡ may_stand_above s n i
-  one_of_them h = rw (lt-ltb i n h)
-
-  pub not_lower : is_lower (item_at s i) ≡ false → 0 ≡ upper_number s n i
-  unfolding upper_number
-  not_lower e = rw e
-
-  module _ (above : Bool) (u : ℕ) (lower : is_lower (item_at s i) ≡ true) (at : u ≡ upper_index (item_at s i)) (found : above ≡ may_stand_above s n u) where
-    pub sound_upper : above ≡ true → 0 ≡ upper_number s n i
-    unfolding upper_number
-    sound_upper e = rw (lower, ← at, ← found, e)
-
-    pub bad_upper : above ≡ false → 16 ≡ upper_number s n i
-    unfolding upper_number
-    bad_upper e = rw (lower, ← at, ← found, e)
+use Rattle.upper_rules.specs.UpperRules.{upper_number, circle_number, uppers_verdict}
 
 -- a walk over items that break no rule is accepted
 walked : (number : ℕ → ℕ) (m i k : ℕ) → ((j : ℕ) → i ≤ j → j < i + k → number j ≡ 0) → in_turn number m i k ≡ accepted m
@@ -43,6 +21,10 @@ walked number m i zero h = refl
 walked number m i (suc k) h = rw (h i (omega arith) (omega arith)) (walked number m (suc i) k (λ j a b. h j (omega arith) (omega arith)))
 
 module _ (s : List ℕ) (n : ℕ) where
+  not_lower : (i : ℕ) → is_lower (item_at s i) ≡ false → upper_number s n i ≡ 0
+  unfolding upper_number
+  not_lower i e = rw e
+
   straight : stepped_in s n ≡ false → (i : ℕ) → 0 < i → i < n → circle_number s n i ≡ 0
   unfolding circle_number comes_back
   straight e i p q = rw (none_above s n e i q, none_met (upper s n) i n (none_above s n e 0 (omega arith)) p)
@@ -51,7 +33,7 @@ module _ (s : List ℕ) (n : ℕ) where
   unfolding uppers_verdict
   none_lower e =
       rw (
-        walked (upper_number s n) n 0 n (λ j a b. sym (not_lower s n j (none_stepped s n j e (omega arith)))),
+        walked (upper_number s n) n 0 n (λ j a b. not_lower j (none_stepped s n j e (omega arith))),
         walked (circle_number s n) n 1 (n - 1) (λ j a b. straight e j a (omega arith)),
       )
 

@@ -1,95 +1,74 @@
 // The rules on upper items, refusals 16 and 17, over all items of a sheet.
 #![tactic(auto)]
 
-ghost use Rattle.std.specs.Prelude.{false, ◌≡◌, ◌-◌, ◌≤◌, ◌<◌};
+ghost use Rattle.std.specs.Prelude.{false, ◌≡◌, ◌-◌, ◌<◌};
 ghost use Rattle.circles.specs.Following.{upper_in, comes_back};
+ghost use Rattle.figures.specs.Refusal.{number_in};
 ghost use Rattle.figures.specs.Rules.{refused_if};
-ghost use Rattle.pairs.specs.Pairs.{in_turn, PartsIn, verdict_means};
+ghost use Rattle.pairs.specs.Pairs.{in_turn, verdict_means};
 ghost use Rattle.item_forms.specs.Forms.{is_lower};
 ghost use Rattle.upper_items.specs.Uppers.{item_at};
 ghost use Rattle.upper_rules.specs.UpperRules.{may_stand_above, upper_number, uppers_verdict};
 
 use circles::comes_back;
+use figures::Refusal;
 use items::{decode, is_lower};
-use pairs::{Verdict, part_at};
+use pairs::{Items, Refused, in_turn};
 use stepped_roofs::is_upper;
 use upper_items::{has_lower, upper_index, uppers};
 
-// Refusals of upper items, by document 02's numbers.
-const UPPER_ITEM: u8 = 16;
-
-const CIRCLE: u8 = 17;
-
-// Whether item i is one of the n items and of a kind that may stand above another.
-fn may_stand_above(s: &[u8], n: usize, i: usize) -> bool
-    requires { PartsIn s.now n }
-    ensures { result ≡ may_stand_above s.now n i }
+// Whether item i is one of the items and of a kind that may stand above another.
+fn may_stand_above(items: Items, i: usize) -> bool
+    ensures { result ≡ may_stand_above items.entry.sheet.now items.entry.count i }
 {
-    if n <= i {
-        return false;
-    }
-    let decoded = decode(part_at(s, i));
-    let item = decoded.item;
-    is_upper(item)
+    i < items.count() && matches!(&decode(items.part(i)), Ok(item) if is_upper(item))
 }
 
-// 16 where item i is a lower roof whose upper item may not stand above it, otherwise 0.
-fn upper_number(s: &[u8], n: usize, i: usize) -> u8
-    requires { PartsIn s.now n × (i < n) }
-    ensures { result ≡ upper_number s.now n i }
+// A lower roof is refused whose upper item may not stand above it.
+#[tactic(auto, unfolding(crate::specs::UpperRules::upper_number))]
+fn check_upper(items: Items, i: usize) -> Result<(), Refusal>
+    requires { i < items.count }
+    ensures { number_in result ≡ upper_number items.entry.sheet.now items.entry.count i }
 {
-    let p = part_at(s, i);
-    if !is_lower(p) {
-        return 0;
+    let p = items.part(i);
+    if is_lower(p) && !may_stand_above(items, usize::from(upper_index(p))) {
+        return Err(Refusal::UpperItem);
     }
-    if may_stand_above(s, n, upper_index(p) as usize) {
-        return 0;
-    }
-    UPPER_ITEM
+    Ok(())
 }
 
-// 16 over the n items.
-fn check_uppers(s: &[u8], n: usize) -> Verdict
-    requires { PartsIn s.now n }
-    ensures { verdict_means result ≡ in_turn (upper_number s.now n) n 0 n }
+// 16 over all items.
+fn check_uppers(items: Items) -> Result<usize, Refused>
+    ensures { verdict_means result ≡ in_turn (upper_number items.entry.sheet.now items.entry.count) items.entry.count 0 items.entry.count }
 {
-    let mut i = 0;
-    while i < n {
-        let number = upper_number(s, n, i);
-        if number != 0 {
-            return Verdict::Refused(number, i);
-        }
-        i += 1;
-    }
-    Verdict::Accepted(n)
+    in_turn(0, items.count(), |i| check_upper(items, i))
 }
 
 // 17 over the roofs of n items, by a table of their upper items.
-fn check_circles(upper: &[u8], n: usize) -> Verdict
+fn check_circles(upper: &[u8], n: usize) -> Result<usize, Refused>
     requires { upper_in upper.now 0 ≡ 0 }
     ensures { verdict_means result ≡ in_turn (λ i. refused_if (comes_back (upper_in upper.now) n i) 17) n 1 (n - 1) }
 {
-    let mut i = 1;
-    while i < n {
+    in_turn(1, n, |i| {
         if comes_back(upper, n, i) {
-            return Verdict::Refused(CIRCLE, i);
+            Err(Refusal::Circle)
+        } else {
+            Ok(())
         }
-        i += 1;
-    }
-    Verdict::Accepted(n)
+    })
 }
 
-// The verdict on the upper items of n items that lie in the sheet, the first of them no lower roof. Most sheets have no lower
-// roof at all, and are done at once.
-pub fn uppers_verdict(s: &[u8], n: usize) -> Verdict
-    requires { PartsIn s.now n × (n ≤ 32) × (is_lower (item_at s.now 0) ≡ false) }
-    ensures { verdict_means result ≡ uppers_verdict s.now n }
+// The verdict on the upper items of items of which the first is no lower roof. Most sheets have no lower roof at all, and are done
+// at once.
+#[tactic(auto, using(crate::proofs::Passed::none_lower, crate::proofs::Passed::site_alone, crate::proofs::Passed::uppers_refused, crate::proofs::Passed::uppers_circles))]
+pub fn uppers_verdict(items: Items) -> Result<usize, Refused>
+    requires { is_lower (item_at items.sheet.now 0) ≡ false }
+    ensures { verdict_means result ≡ uppers_verdict items.entry.sheet.now items.entry.count }
 {
-    if !has_lower(s, n) {
-        return Verdict::Accepted(n);
+    let count = items.count();
+    if !has_lower(items) {
+        return Ok(count);
     }
-    match check_uppers(s, n) {
-        Verdict::Refused(number, item) => Verdict::Refused(number, item),
-        Verdict::Accepted(_) => check_circles(&uppers(s, n), n),
-    }
+    check_uppers(items)?;
+    check_circles(&uppers(items), count)
 }

@@ -1,12 +1,13 @@
 -- The figures that document 01 marks with a star, as one table with one claim, computed from the definitions; "document 01's figures
 -- stay" (document 02, A4), so they are the same where loads are worked in tenths.
 -- Ce = Ct = 100, sk = 1,000 unless said.
-use Rattle.std.specs.Prelude.{ℕ, false, ◌≡◌, refl, List, [], ◌∷◌, replicate}
-use Rattle.figures.specs.RoofRules.{roof_of, no_spans, slope_of, slopes_fields, steep_valleys, shape_refusal, roof_refusal}
+use Rattle.std.specs.Prelude.{ℕ, false, ◌≡◌, refl, List, [], ◌∷◌, ◌++◌, replicate, None}
+use Rattle.figures.specs.RoofRules.{roof_of, slopes_fields, steep_valleys, shape_refusal, roof_refusal}
 use Rattle.figures.specs.Rules.{first_of}
-use Rattle.figures.specs.declared.site.JobDay.TheVariants.{Undated}
+use Rattle.figures.specs.Spans.{flat, level, no_spans, slope_of}
 use Rattle.figures.specs.declared.site.Site.{Site}
-use Rattle.figures.specs.declared.roof.Slope.{Slope}
+use Rattle.figures.specs.declared.slopes.Slope.{Slope}
+use Rattle.figures.specs.declared.slopes.GuardedSlope.{GuardedSlope}
 use Rattle.figures.specs.declared.roof.Shape.TheVariants.{Monopitch, Pitched, MultiSpan, Cylindrical, Abutting}
 use Rattle.figures.specs.declared.roof.Roof.{Roof}
 use Rattle.rounding.specs.Fraction.{sum}
@@ -27,24 +28,36 @@ use Rattle.standard.specs.Stretch.{load, read_in, start_of, segment, segments, h
 use Rattle.standard.specs.ValleyDrift.{spans_stretch, spans_count}
 
 abbrev pub site_of : ℕ → Site
-site_of sk = record { sk = sk; ce = 100; ct = 100; cesl = 200; situation = 0; altitude = 500; day = Undated }
+site_of sk = record { sk = sk; ce = 100; ct = 100; cesl = 200; situation = 0; altitude = 500; day = None }
 
 abbrev pub slope_of_pitch : ℕ → ℕ → Slope
 slope_of_pitch pitch width = record { pitch = pitch; width = width }
 
+abbrev pub guarded_slope : ℕ → ℕ → ℕ → GuardedSlope
+guarded_slope pitch width guard = record { slope = slope_of_pitch pitch width; guard = guard }
+
 -- two spans whose slopes have these pitches, each 4,000 wide
 abbrev pub two_spans : ℕ → ℕ → ℕ → ℕ → Roof
-two_spans a b c d = roof_of (MultiSpan 2 false) (a ∷ 4000 ∷ b ∷ 4000 ∷ c ∷ 4000 ∷ d ∷ 4000 ∷ replicate 86 0)
+two_spans a b c d =
+    roof_of (MultiSpan 2 false)
+    (record {
+      slopes = (slope_of_pitch a 4000 ∷ slope_of_pitch b 4000 ∷ slope_of_pitch c 4000 ∷ slope_of_pitch d 4000 ∷ []) ++ replicate 28 flat;
+      valleys = replicate 15 level;
+    })
 
 abbrev pub monopitch_roof : ℕ → ℕ → Roof
-monopitch_roof pitch guard = roof_of (Monopitch (slope_of_pitch pitch 5000) guard) no_spans
+monopitch_roof pitch guard = roof_of (Monopitch (guarded_slope pitch 5000 guard)) no_spans
 
 abbrev pub pitched_roof : Roof
-pitched_roof = roof_of (Pitched (slope_of_pitch 200 4000) (slope_of_pitch 400 6000) 0 0) no_spans
+pitched_roof = roof_of (Pitched (guarded_slope 200 4000 0) (guarded_slope 400 6000 0)) no_spans
+
+abbrev pub arch_roof : ℕ → ℕ → Roof
+arch_roof rise span = roof_of (Cylindrical (record { rise = rise; span = span })) no_spans
 
 -- b1 = 10,000, h = 3,000, an upper slope 6,000 wide
 abbrev pub lower_roof : ℕ → ℕ → Roof
-lower_roof b2 pitch = roof_of (Abutting 10000 b2 3000 (slope_of_pitch pitch 6000) 0 false) no_spans
+lower_roof b2 pitch =
+    roof_of (Abutting (record { b1 = 10000; b2 = b2; h = 3000; slope = guarded_slope pitch 6000 0; stepped = false })) no_spans
 
 abbrev pub made : ℕ → Roof → ℕ → List ℕ
 made sk roof code = arrangement recommended_figures (site_of sk) roof code
@@ -66,9 +79,9 @@ computed =
     ∷ made 1000 (two_spans 200 200 100 100) 2
     ∷ (roof_refusal (two_spans 10 600 600 10) ∷ [])
     -- kind 5: 3,000/20,000; the loaded width of 1,000/2,000, and its code 2
-    ∷ made 1000 (roof_of (Cylindrical 3000 20000) no_spans) 2
+    ∷ made 1000 (arch_roof 3000 20000) 2
     ∷ (loaded_width 1000 2000 ∷ [])
-    ∷ made 1000 (roof_of (Cylindrical 1000 2000) no_spans) 2
+    ∷ made 1000 (arch_roof 1000 2000) 2
     -- kind 6: 10,000/20,000/3,000, pitch 10°, and the load at position 12,000; a slope at 20°, at 15.0°; b2 = 3,000
     ∷ made 1000 (lower_roof 20000 100) 2
     ∷ (load_at recommended_figures (site_of 1000) (lower_roof 20000 100) 2 12000 ∷ [])

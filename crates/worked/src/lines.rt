@@ -1,174 +1,97 @@
-// What a line asks for.
-ghost use Rattle.std.specs.Prelude.{◌≤◌, ◌<◌, length};
+// The lines of a file: what they give together, and then each that asks for something.
+use crate::cases::compare_case;
+use crate::report::Report;
+use anyhow::Result;
+use counts::Compared;
+use figures::{Roof, Site};
+use second_sets::{STORE_NUMBERS, put_set};
+use std::alloc::{AllocError, Global};
+use stored_lines::{Job, Line};
+use worked_roofs::{Given, Tally};
 
-use counts::compared;
-use figures::{JobDay, Roof, Site};
-use second_sets::STORE_NUMBERS;
-use stored_lines::{behind, byte, count_of, day_of, fits, number, roof_of, site_of, word_of};
-use worked_roofs::{JOBS, SET, SITES, Tally, job_of, newtons, store_of};
-
-const COMPARE: u64 = 0x636f6d70617265;
-
-const PITCHES: u64 = 0x70697463686573;
-
-const NUMBER: u64 = 0x6e756d626572;
-
-const LOAD: u64 = 0x6c6f6164;
-
-const REFUSAL: u64 = 0x7265667573616c;
-
-const OVERHANG: u64 = 0x6f76657268616e67;
-
-const GUARD: u64 = 0x6775617264;
-
-const OUTSIDE: u64 = 0x6f757473696465;
-
-const DATED: u64 = 0x6461746564;
-
-// Whether a line has the numbers that its word asks for.
-fn readable(word: u64, text: &[u8], at: usize) -> bool {
-    let n = count_of(text, at);
-    match word {
-        SITES | SET => n == 6,
-        JOBS => n == 2,
-        PITCHES => n == 8,
-        COMPARE => fits(number(text, at, 1, 0), 0, n),
-        NUMBER | LOAD | REFUSAL | OVERHANG | GUARD | OUTSIDE => fits(number(text, at, 10, 0), 9, n),
-        _ => false,
-    }
-}
-
-// The answer to a word: a number of the maker's slice, the load at a station, a force at a slope.
-fn answer(word: u64, store: &[u32], site: Site, roof: Roof, code: u8, asked: u32) -> u32 {
-    match word {
-        NUMBER => worked_roofs::number_at(store, site, roof, code, asked),
-        LOAD => worked_roofs::load(store, site, roof, code, asked),
-        OVERHANG => newtons(local_forces::overhang(store, site, roof, byte(asked))),
-        _ => newtons(local_forces::guard_force(store, site, roof, byte(asked))),
-    }
-}
-
-// A case that a line gives whole: two numbers of its word, a site, a code and a roof.
-fn case(tally: Tally, store: &[u32], day: JobDay, word: u64, text: &[u8], at: usize) -> Tally {
-    let mut t = tally;
-    let a = number(text, at, 1, 0);
-    let b = number(text, at, 2, 0);
-    let site = site_of(text, at, 3, day);
-    let code = byte(number(text, at, 9, 0));
-    let roof = roof_of(text, at, 10);
-    match word {
-        OUTSIDE => {
-            t.refusals = worked_roofs::outside(
-                tally.refusals,
-                store,
-                job_of(store, site),
-                roof,
-                code,
-                byte(a),
-                byte(b),
-            )
-        }
-        REFUSAL => {
-            t.figures = worked_roofs::both(
-                tally.figures,
-                store,
-                job_of(store, site),
-                roof,
-                code,
-                byte(a),
-                byte(b),
-            )
-        }
-        _ => { t.figures = compared(tally.figures, answer(word, store, site, roof, code, a) != b) }
-    }
-    t
-}
-
-// A line that is readable, under a store, with the day of its job.
-fn run(
-    tally: Tally,
+// What the lines give together: the store of their sets, and the sites and the jobs for their roofs.
+#[derive(Drop)]
+struct Setting {
     store: [u32; STORE_NUMBERS],
-    day: JobDay,
-    word: u64,
-    text: &[u8],
-    at: usize,
-) -> Tally {
-    let mut t = tally;
-    match word {
-        SITES | SET | JOBS => {}
-        PITCHES => {
-            t.forces = worked_roofs::pitches(
-                tally.forces,
-                &store,
-                site_of(text, at, 3, day),
-                number(text, at, 1, 0),
-                number(text, at, 2, 0),
-            )
+    sites: Vec<Site>,
+    jobs: Vec<Job>,
+}
+
+impl Setting {
+    fn of(alloc: Global, lines: &[Line]) -> Result<Setting, AllocError> {
+        let mut setting = Setting {
+            store: [0; STORE_NUMBERS],
+            sites: Vec::new(alloc),
+            jobs: Vec::new(alloc),
+        };
+        for line in lines {
+            match line {
+                Line::Set(set) => put_set(&mut setting.store, set).unwrap_or(()),
+                Line::Site(site) => setting.sites.push(*site)?,
+                Line::Job(job) => setting.jobs.push(*job)?,
+                _ => {}
+            }
         }
-        COMPARE => t = worked_roofs::every_job(tally, store, text, roof_of(text, at, 1)),
-        _ => t = case(tally, &store, day, word, text, at),
+        Ok(setting)
     }
-    t
-}
 
-// The day that a line begins with, or none.
-fn line_day(text: &[u8], at: usize) -> JobDay {
-    if word_of(text, at) == DATED {
-        return day_of(number(text, at, 1, 0));
-    }
-    JobDay::Undated
-}
-
-// Where a line goes on behind its day, if it has one.
-fn behind_day(text: &[u8], at: usize) -> usize
-    requires { at < length text.now }
-    ensures { result ≤ length text.now }
-{
-    if word_of(text, at) != DATED {
-        return at;
-    }
-    let day = behind(text, at, b' ');
-    if day < text.len() {
-        behind(text, day, b' ')
-    } else {
-        day
+    // A roof at every site and in every job. A job is lent the first sets alone: behind them stand the numbers of the others, which no
+    // call may look at.
+    fn compare(&self, tally: &mut Tally, roof: &Roof) {
+        for job in &self.jobs {
+            let mut store = self.store;
+            store[0] = job.sets;
+            for site in &self.sites {
+                let site = Site {
+                    day: job.day,
+                    ..*site
+                };
+                tally.compare(&Given {
+                    store: &store,
+                    site,
+                    roof,
+                });
+            }
+        }
     }
 }
 
-// One line: comments and empty lines say nothing. One that can't be read goes to standard error.
-fn line(
-    errors: &impl Print,
-    tally: Tally,
-    store: [u32; STORE_NUMBERS],
-    text: &[u8],
-    at: usize,
-) -> Tally
-    requires { at < length text.now }
-{
-    let first = text[at];
-    if (first == b'#') | (first == b'\n') {
-        return tally;
+// The lines of a text but for comments and empty ones. One that can't be read goes to standard error.
+fn read_lines(
+    rt: &(impl AllocGlobal + Eprint),
+    count: &mut Compared,
+    text: &str,
+) -> Result<Vec<Line>> {
+    let mut lines = Vec::new(rt.alloc());
+    for text in text.lines() {
+        if text.is_empty() || text.starts_with('#') {
+            continue;
+        }
+        let line = text.parse();
+        count.compare(line.is_err());
+        match line {
+            Ok(line) => lines.push(line)?,
+            Err(_) => eprintln!(rt; "{text}")?,
+        }
     }
-    let mut t = tally;
-    let end = behind(text, at, b'\n');
-    let from = behind_day(text, at);
-    let word = word_of(text, from);
-    if (end <= from) | !readable(word, text, from) {
-        let _ = errors.write_all(&text[at..end]);
-        t.lines = compared(tally.lines, true);
-        return t;
-    }
-    t.lines = compared(tally.lines, false);
-    run(t, store, line_day(text, at), word, text, from)
+    Ok(lines)
 }
 
-// Every line, under the store of the text's sets.
-pub fn lines(errors: &impl Print, mut tally: Tally, text: &[u8]) -> Tally {
-    let store = store_of(text);
-    let mut at = 0;
-    while at < text.len() {
-        tally = line(errors, tally, store, text, at);
-        at = behind(text, at, b'\n');
+// Compares what every line asks for, under the store of all the sets.
+pub fn compare_lines(
+    rt: &(impl AllocGlobal + Eprint),
+    report: &mut Report,
+    text: &str,
+) -> Result<()> {
+    let lines = read_lines(rt, &mut report.lines, text)?;
+    let setting = Setting::of(rt.alloc(), &lines)?;
+    for line in &lines {
+        match line {
+            Line::Set(_) | Line::Site(_) | Line::Job(_) => {}
+            Line::Compare(roof) => setting.compare(&mut report.roofs, roof),
+            Line::Pitches(pitches) => report.roofs.compare_pitches(&setting.store, pitches),
+            Line::Case(case) => compare_case(report, &setting.store, case),
+        }
     }
-    tally
+    Ok(())
 }

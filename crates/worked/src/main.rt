@@ -3,51 +3,39 @@
 // every answer to the stored figure or to a second calculation, and writes what it counted.
 #![tactic(auto)]
 
+mod cases;
 mod ground;
 mod lines;
 mod report;
 
 use anyhow::{Context, Result};
-use program_inputs::{argument, read_full};
+use lines::compare_lines;
+use program_inputs::argument;
+use report::Report;
 use std::fs;
-use std::io::Read;
-use worked_roofs::Tally;
 
 // Room for any file's name.
 const PATH_ROOM: usize = 4_096;
 
-// Room for a file.
-const FILE_ROOM: usize = 65_536;
-
-// The lines of an open file. What lies past the room for it is not read, which is said and shows in the counts.
-fn read(errors: &impl Print, tally: Tally, file: &mut impl Read) -> Result<Tally> {
-    let mut text = [0u8; FILE_ROOM];
-    let n = read_full(file, &mut text).context("read")?;
-    if n == 0 {
-        println!(errors; "read: the file is empty")?;
+// Compares the lines of the file that an argument names.
+fn compare_file(rt: &HostRuntime, report: &mut Report, number: usize) -> Result<()> {
+    let mut path_room = [0u8; PATH_ROOM];
+    let path = argument(rt, number, &mut path_room).context("file name")?;
+    let text = fs::read_to_string(rt, path).context(path)?;
+    if text.is_empty() {
+        eprintln!(rt; "read: the file is empty")?;
     }
-    if n == FILE_ROOM {
-        println!(errors; "read: the file is too long")?;
-    }
-    Ok(lines::lines(errors, tally, &text[..n]))
-}
-
-// The lines of the file that an argument names.
-fn file(rt: &HostRuntime, tally: Tally, i: usize) -> Result<Tally> {
-    let mut room = [0u8; PATH_ROOM];
-    let name = argument(rt, i, &mut room).context("file name")?;
-    let mut file = fs::open(rt, name).context(name)?;
-    read(&rt.stderr(), tally, &mut file)
+    compare_lines(rt, report, text.as_str())
 }
 
 fn main(rt: HostRuntime) -> Result<()> {
-    let document = file(&rt, worked_roofs::nothing(), 1)?;
-    let refusals = file(&rt, document, 2)?;
-    let cases = file(&rt, refusals, 3)?;
-    let mut tally = file(&rt, cases, 4)?;
-    tally.ground = ground::places(tally.ground);
-    tally.days = worked_sets::sets_on_days();
-    tally.stores = worked_sets::every_store();
-    tally.sets = worked_sets::sets_added();
-    report::report(&rt, tally).context("write")
+    let mut report = Report::default();
+    for number in 1..=4 {
+        compare_file(&rt, &mut report, number)?;
+    }
+    report.ground = ground::compare_places();
+    report.days = worked_sets::sets_on_days();
+    report.stores = worked_sets::every_store();
+    report.sets = worked_sets::sets_added();
+    println!(rt; "{report}").context("write")
 }

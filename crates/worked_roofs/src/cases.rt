@@ -1,96 +1,68 @@
-// A roof at every site and in every code, against the second calculation.
-use super::arrangements::made;
-use super::forces::slope;
-use super::jobs::{Job, first_sets, job_of};
-use super::refusals::{both, outside};
-use super::tally::Tally;
-use counts::{compared, more};
-use figures::{JobDay, Roof, Site};
-use second_sets::STORE_NUMBERS;
-use stored_lines::{behind, day_of, number, site_of, word_of};
+// A roof at a site, in every code and at every slope.
+use crate::forces::{compare_pitches, compare_slope};
+use crate::given::Given;
+use crate::made::Made;
+use crate::refusals::{ExpectedRefusal, compare_beyond};
+use crate::tally::Tally;
+use figures::National;
+use second::LoadCase;
+use stored_lines::Pitches;
 
-// The word of a line that gives one more site.
-pub const SITES: u64 = 0x7369746573;
+// A code that the roof hasn't, and a job that no set has begun for. Expected refusals are the documents' numbers, as stored cases and the
+// second calculation have them.
+const NO_ARRANGEMENT: u8 = 13;
 
-// The word of a line that gives one more job for every site: how many sets its store has, and its day.
-pub const JOBS: u64 = 0x6a6f6273;
+const NO_SET_BEGUN: u8 = 19;
 
-// The codes of documents 01 and 02, and some that no roof has: 0 to 4, 10 to 14, 20, 21, 30 to 46 and 255.
-fn code_at(i: usize) -> u8 {
-    match i {
-        0..=4 => i as u8,
-        5..=9 => i as u8 + 5,
-        10..=11 => i as u8 + 10,
-        12..=28 => i as u8 + 18,
-        _ => 255,
-    }
-}
-
-// One code.
-fn one_code(tally: Tally, store: &[u32], job: Job, roof: Roof, code: u8) -> Tally {
-    let mut t = tally;
-    let site = job.site;
-    let shape = roof.shape;
-    if !second::exists(shape, site.situation, code) {
-        t.refusals = both(tally.refusals, store, job, roof, code, code, 13);
-        return t;
-    }
-    let n = second::segment_count(job.national, shape, code);
-    let readings = tally.readings;
-    t.arrangements = compared(tally.arrangements, made(store, job, roof, code, 128) != n);
-    t.segments = more(tally.segments, n);
-    t.drops = super::drops::segments(tally.drops, store, job, roof, code, n);
-    t.refusals = super::refusals::beyond(tally.refusals, store, job, roof, code, n);
-    t.readings = super::readings::stations(readings, store, job, roof, code, n);
-    t
-}
-
-// Every code, and the slopes 0 to 3: those that a roof may have, and two that no roof has.
-fn codes(mut tally: Tally, store: &[u32], job: Job, roof: Roof) -> Tally {
-    let site = job.site;
-    let mut i = 0;
-    while i < 30 {
-        let code = code_at(i);
-        tally = one_code(tally, store, job, roof, code);
-        tally.forces = slope(tally.forces, store, site, roof, code);
-        i += 1;
-    }
-    tally
-}
-
-// One site: its job is refused by 19, or is tried in every code.
-fn one_site(tally: Tally, store: &[u32], site: Site, roof: Roof) -> Tally {
-    let mut t = tally;
-    let day = site.day;
-    let job = job_of(store, site);
-    if second_sets::none_begun(store, day) {
-        t.refusals = outside(tally.refusals, store, job, roof, 2, 99, 19);
-        return t;
-    }
-    codes(tally, store, job, roof)
-}
-
-// Every site of the text, with a job of one day.
-fn sites(mut tally: Tally, store: &[u32], day: JobDay, text: &[u8], roof: Roof) -> Tally {
-    let mut at = 0;
-    while at < text.len() {
-        if word_of(text, at) == SITES {
-            tally = one_site(tally, store, site_of(text, at, 1, day), roof);
+impl Tally {
+    // The job is refused by 19, or the roof is tried in every code, and at the slopes that a roof may have and two that no roof has.
+    pub fn compare(&mut self, given: &Given<'_>) {
+        let Some(national) = second_sets::figures_on(given.store, given.site.day) else {
+            let refusal = ExpectedRefusal {
+                code: 2,
+                other_code: 99,
+                number: NO_SET_BEGUN,
+            };
+            refusal.compare_every_call(given, &mut self.refusals);
+            return;
+        };
+        // The codes of documents 01 and 02, and some that no roof has.
+        for code in (0..=4)
+            .chain(10..=14)
+            .chain(20..=21)
+            .chain(30..=46)
+            .chain([255])
+        {
+            self.compare_code(given, national, code);
         }
-        at = behind(text, at, b'\n');
-    }
-    tally
-}
-
-// Every job of the text, under the first sets of a store.
-pub fn every_job(mut tally: Tally, store: [u32; STORE_NUMBERS], text: &[u8], roof: Roof) -> Tally {
-    let mut at = 0;
-    while at < text.len() {
-        if word_of(text, at) == JOBS {
-            let lent = first_sets(store, number(text, at, 1, 0));
-            tally = sites(tally, &lent, day_of(number(text, at, 2, 0)), text, roof);
+        for slope in 0..=3 {
+            compare_slope(given, slope, &mut self.forces);
         }
-        at = behind(text, at, b'\n');
     }
-    tally
+
+    fn compare_code(&mut self, given: &Given<'_>, national: National, code: u8) {
+        if !second::exists(given.roof.shape, given.site.situation, code) {
+            let refusal = ExpectedRefusal {
+                code,
+                other_code: code,
+                number: NO_ARRANGEMENT,
+            };
+            refusal.compare(given, &mut self.refusals);
+            return;
+        }
+        let expected = LoadCase::new(national, given.site, given.roof, code);
+        let made = Made::new(given, code);
+        self.arrangements.compare(!made.is_expected(&expected));
+        self.segments = self
+            .segments
+            .saturating_add(expected.segment_count() as u64);
+        self.drops.add_segments(&made, &expected);
+        compare_beyond(given, &expected, &mut self.refusals);
+        self.readings.add_segments(given, &expected);
+    }
+
+    // A guarded slope at a site, at many pitches.
+    pub fn compare_pitches(&mut self, store: &[u32], pitches: &Pitches) {
+        compare_pitches(store, pitches, &mut self.forces);
+    }
 }

@@ -1,60 +1,53 @@
 // Returned loads against those of before A4: "No returned load rises by the change, none drops by more than 2".
-ghost use Rattle.std.specs.Prelude.{◌≤◌, ◌<◌};
+use crate::made::Made;
+use second::{LoadCase, WHOLE};
+use std::fmt;
 
-use super::jobs::Job;
-use super::tally::Drops;
-use counts::more;
-use figures::Roof;
-
-// One load more, by what it was before.
-pub fn dropped(drops: Drops, before: u32, load: u32) -> Drops {
-    let mut d = drops;
-    if before < load {
-        d.other = more(drops.other, 1);
-        return d;
-    }
-    let drop = before - load;
-    match drop {
-        0 => d.none = more(drops.none, 1),
-        1 => d.one = more(drops.one, 1),
-        2 => d.two = more(drops.two, 1),
-        _ => d.other = more(drops.other, 1),
-    }
-    if drops.worst < drop {
-        d.worst = drop;
-    }
-    d
+// Loads by how far they lie below what they were before A4: not at all, by 1, by 2, or otherwise, as one that rose; and the worst drop.
+#[derive(Clone, Copy, Debug, Default)]
+pub struct Drops {
+    none: u64,
+    one: u64,
+    two: u64,
+    other: u64,
+    worst: u32,
 }
 
-// The load at the start or the end of a segment, as it was before.
-fn load_before(job: Job, roof: Roof, code: u8, i: usize) -> u32
-    requires { i < 64 }
-{
-    let site = job.site;
-    let segment = second::segment_at(job.national, roof, code, site.sk, i / 2);
-    let station = if i % 2 == 0 {
-        segment.start
-    } else {
-        segment.end
-    };
-    second::load_on(
-        second::ground_of(site, code),
-        segment,
-        station,
-        second::WHOLE,
-    )
+impl Drops {
+    // Counts one more load, by what it was before.
+    pub fn add(&mut self, before: u32, load: u32) {
+        match before.checked_sub(load) {
+            Some(0) => self.none = self.none.saturating_add(1),
+            Some(1) => self.one = self.one.saturating_add(1),
+            Some(2) => self.two = self.two.saturating_add(1),
+            _ => self.other = self.other.saturating_add(1),
+        }
+        self.worst = self.worst.max(before.saturating_sub(load));
+    }
+
+    // Counts the two loads of every segment, which stand behind its start and its end.
+    pub fn add_segments(&mut self, made: &Made, expected: &LoadCase<'_>) {
+        for i in 0..expected.segment_count() {
+            let segment = expected.segment(i);
+            let before = |station| expected.ground.load_on(&segment, station, WHOLE);
+            self.add(before(segment.start), made.numbers[4 * i + 2]);
+            self.add(before(segment.end), made.numbers[4 * i + 3]);
+        }
+    }
 }
 
-// The two loads of each of n segments, which stand behind its start and its end.
-pub fn segments(mut drops: Drops, store: &[u32], job: Job, roof: Roof, code: u8, n: usize) -> Drops
-    requires { n ≤ 32 }
-{
-    let out = super::arrangements::numbers(store, job.site, roof, code);
-    let mut i = 0;
-    while i < 2 * n {
-        let load = out[i / 2 * 4 + 2 + i % 2];
-        drops = dropped(drops, load_before(job, roof, code, i), load);
-        i += 1;
+impl fmt::Display for Drops {
+    fn fmt<W: fmt::Write>(&self, f: &mut fmt::Formatter<W>) -> fmt::Result {
+        let Drops {
+            none,
+            one,
+            two,
+            other,
+            worst,
+        } = *self;
+        write!(
+            f,
+            "AS BEFORE {none} LOWER BY 1 {one} LOWER BY 2 {two} OTHERWISE {other} WORST DROP {worst}"
+        )
     }
-    drops
 }

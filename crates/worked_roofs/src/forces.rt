@@ -1,51 +1,38 @@
-// Local forces at the slopes of a roof, and at every pitch, against the second calculation.
-use counts::compared;
-use figures::{Roof, SPAN_NUMBERS, Shape, Site, Slope};
-use local_forces::LocalForce;
-use second::NO_FORCE;
+// Local forces against the second calculation.
+use crate::given::Given;
+use counts::Compared;
+use figures::{GuardedSlope, Roof, Shape, Slope, Spans};
+use stored_lines::Pitches;
 
-// The force, no force, or the refusal.
-pub fn newtons(force: LocalForce) -> u32 {
-    match force {
-        LocalForce::Newtons(force) => force,
-        LocalForce::NoForce => NO_FORCE,
-        LocalForce::Refused(number) => super::readings::REFUSED + number as u32,
-    }
+// The steepest pitch that is tried, in tenths of a degree.
+const STEEPEST: u32 = 800;
+
+// Both forces at a slope.
+pub fn compare_slope(given: &Given<'_>, slope: u8, count: &mut Compared) {
+    let eave = second::overhang(given.site, given.roof, slope);
+    count.compare(given.overhang(slope) != Ok(eave));
+    let guard = second::guard_force(given.site, given.roof, slope);
+    count.compare(given.guard_force(slope) != Ok(guard));
 }
 
-// Both forces at one of the slopes 0 to 3.
-pub fn slope(count: u64, store: &[u32], site: Site, roof: Roof, slope: u8) -> u64 {
-    if 3 < slope {
-        return count;
+// Guarded slopes at every twelfth pitch from the first on.
+pub fn compare_pitches(store: &[u32], pitches: &Pitches, count: &mut Compared) {
+    let Pitches { first, width, site } = *pitches;
+    for pitch in (first..=STEEPEST).step_by(12) {
+        let roof = guarded_roof(Slope { pitch, width });
+        let given = Given {
+            store,
+            site,
+            roof: &roof,
+        };
+        compare_slope(&given, 1, count);
     }
-    let eave = newtons(local_forces::overhang(store, site, roof, slope));
-    let guard = newtons(local_forces::guard_force(store, site, roof, slope));
-    let one = compared(count, eave != second::overhang(site, roof, slope));
-    compared(one, guard != second::guard_force(site, roof, slope))
 }
 
 // A roof of one slope with a guard.
-fn guarded(pitch: u32, width: u32) -> Roof {
-    let slope = Slope {
-        pitch: pitch,
-        width: width,
-    };
-    let shape = Shape::Monopitch {
-        slope: slope,
-        guard: 1,
-    };
+fn guarded_roof(slope: Slope) -> Roof {
     Roof {
-        shape: shape,
-        spans: [0; SPAN_NUMBERS],
+        shape: Shape::Monopitch(GuardedSlope { slope, guard: 1 }),
+        spans: Spans::none(),
     }
-}
-
-// A guarded slope at every twelfth pitch.
-pub fn pitches(mut count: u64, store: &[u32], site: Site, first: u32, width: u32) -> u64 {
-    let mut pitch = first;
-    while pitch <= 800 {
-        count = slope(count, store, site, guarded(pitch, width), 1);
-        pitch += 12;
-    }
-    count
 }

@@ -1,65 +1,50 @@
 // Refusals by their numbers.
-ghost use Rattle.std.specs.Prelude.{◌≤◌};
+use crate::given::Given;
+use crate::made::Made;
+use counts::Compared;
+use second::{LoadCase, roof_end};
 
-use super::arrangements::made;
-use super::forces::newtons;
-use super::jobs::Job;
-use super::readings::load;
-use counts::compared;
-use figures::Roof;
+// A slice that is too short, and a station past the roof's end, by the documents' numbers.
+const SLICE: u8 = 11;
 
-// The maker refuses with room for every segment, and in another code before the slice is looked at; the reader at the roof's start, and
-// in another code far from any roof.
-pub fn both(
-    count: u64,
-    store: &[u32],
-    job: Job,
-    roof: Roof,
-    code: u8,
-    other: u8,
-    number: u8,
-) -> u64 {
-    let site = job.site;
-    let making = super::arrangements::REFUSED + number as usize;
-    let reading = super::readings::REFUSED + number as u32;
-    let full = made(store, job, roof, code, 128) != making;
-    let none = made(store, job, roof, other, 0) != making;
-    let start = load(store, site, roof, code, 0) != reading;
-    let far = load(store, site, roof, other, 4_294_967_295) != reading;
-    compared(compared(count, full | none), start | far)
+const PAST_THE_END: u8 = 12;
+
+// The number by which calls refuse in a code, and also in another code, which breaks a later rule.
+#[derive(Clone, Copy, Debug)]
+pub struct ExpectedRefusal {
+    pub code: u8,
+    pub other_code: u8,
+    pub number: u8,
 }
 
-// Figures outside their ranges: the same number from every call, also where the code, the slice, the station or the slope breaks a
-// later rule.
-pub fn outside(
-    count: u64,
-    store: &[u32],
-    job: Job,
-    roof: Roof,
-    code: u8,
-    other: u8,
-    number: u8,
-) -> u64 {
-    let site = job.site;
-    let refused = super::readings::REFUSED + number as u32;
-    let eave = newtons(local_forces::overhang(store, site, roof, 1)) != refused;
-    let guard = newtons(local_forces::guard_force(store, site, roof, 9)) != refused;
-    compared(
-        both(count, store, job, roof, code, other, number),
-        eave | guard,
-    )
+impl ExpectedRefusal {
+    // The maker refuses with room for every segment, and in the other code before the slice is looked at; the reader at the roof's
+    // start, and in the other code far from any roof.
+    pub fn compare(self, given: &Given<'_>, count: &mut Compared) {
+        let number = self.number;
+        let full = Made::new(given, self.code);
+        let none = Made::with_room(given, self.other_code, 0);
+        count.compare(!full.is_refused(number) || !none.is_refused(number));
+        let start = given.load(self.code, 0);
+        let far = given.load(self.other_code, u32::MAX);
+        count.compare(start != Err(number) || far != Err(number));
+    }
+
+    // Figures outside their ranges: the same number from every call, also where the slope breaks a later rule.
+    pub fn compare_every_call(self, given: &Given<'_>, count: &mut Compared) {
+        self.compare(given, count);
+        let eave = given.overhang(1);
+        let guard = given.guard_force(9);
+        count.compare(eave != Err(self.number) || guard != Err(self.number));
+    }
 }
 
-// A code that exists, of n segments: refused in a slice one number too short, and past the roof's end.
-pub fn beyond(count: u64, store: &[u32], job: Job, roof: Roof, code: u8, n: usize) -> u64
-    requires { n ≤ 32 }
-{
-    let site = job.site;
-    let short = made(store, job, roof, code, (4 * n + 127) % 128)
-        != super::arrangements::REFUSED + 11;
-    let refused = super::readings::REFUSED + 12;
-    let end = second::roof_end(roof) % super::readings::REFUSED;
-    let past = load(store, site, roof, code, end + 1) != refused;
-    let far = load(store, site, roof, code, 4_294_967_295) != refused;
-    compared(compared(count, short), past | far)
+// A code that exists: refused in a slice one number too short, and past the roof's end.
+pub fn compare_beyond(given: &Given<'_>, expected: &LoadCase<'_>, count: &mut Compared) {
+    let numbers = 4 * expected.segment_count();
+    let short = Made::with_room(given, expected.code, numbers.saturating_sub(1));
+    count.compare(!short.is_refused(SLICE));
+    let past = given.load(expected.code, roof_end(given.roof).saturating_add(1));
+    let far = given.load(expected.code, u32::MAX);
+    count.compare(past != Err(PAST_THE_END) || far != Err(PAST_THE_END));
 }

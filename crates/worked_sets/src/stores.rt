@@ -1,120 +1,46 @@
 // Stores with one number altered, and of other lengths: which of them every call refuses by 18, and what the others answer.
-ghost use Rattle.std.specs.Prelude.{◌<◌};
+use crate::calls::{CODE, all_refuse, bare_site, load, lower_roof, site_on};
+use crate::rule::{altered, numbers_for};
+use counts::Verdicts;
+use second::{LoadCase, TENTHS};
+use second_sets::{STORE_NUMBERS, figures_on};
 
-use super::calls::{REFUSED, all_refuse, bare_site, load, lower_roof, site_on};
-use super::rule::{altered, store_number};
-use counts::{Stores, compared};
-use figures::JobDay;
-use second_numbers::{difference, sum};
-use second_sets::STORE_NUMBERS;
+// The last day.
+const DAY: Option<u16> = Some(u16::MAX);
 
 // The load at the wall that a job of the last day has in an accepted store, or 19.
-fn expected(store: &[u32]) -> u32 {
-    let day = JobDay::Dated(65_535);
-    if second_sets::none_begun(store, day) {
-        return REFUSED + 19;
-    }
-    second::load_read(
-        second_sets::figures_on(store, day),
-        second::ground_of(site_on(day), 2),
-        lower_roof(),
-        2,
-        0,
-        second::TENTHS,
-    )
+fn expected(store: &[u32]) -> Result<u32, u8> {
+    let national = figures_on(store, DAY).ok_or(19)?;
+    let roof = lower_roof();
+    let case = LoadCase::new(national, site_on(DAY), &roof, CODE);
+    Ok(case.load_read(0, TENTHS))
 }
 
 // One store: 18 comes before a site's 6.
-fn one_store(count: Stores, store: &[u32]) -> Stores {
-    let mut c = count;
-    let day = JobDay::Dated(65_535);
+fn compare_store(count: &mut Verdicts, store: &[u32]) {
+    let (site, bare) = (site_on(DAY), bare_site(DAY));
     if second_sets::refused(store) {
-        let refused = all_refuse(store, site_on(day), 18) & all_refuse(store, bare_site(day), 18);
-        c.refused = compared(count.refused, !refused);
-        return c;
-    }
-    let refused = all_refuse(store, bare_site(day), 6);
-    let other = load(store, site_on(day)) != expected(store);
-    c.accepted = compared(count.accepted, !refused | other);
-    c
-}
-
-// Numbers at and beside the ends of every range.
-fn end_of_range(k: usize) -> u32 {
-    match k {
-        0 => 0,
-        1 => 1,
-        2 => 32,
-        3 => 33,
-        4 => 800,
-        5 => 801,
-        6 => 999,
-        7 => 1_000,
-        8 => 30_000,
-        9 => 30_001,
-        10 => 65_535,
-        11 => 65_536,
-        _ => 4_294_967_295,
+        let refused = all_refuse(store, site, 18) && all_refuse(store, bare, 18);
+        count.refused.compare(!refused);
+    } else {
+        let refused = all_refuse(store, bare, 6);
+        let other = load(store, site) != expected(store);
+        count.accepted.compare(!refused || other);
     }
 }
 
-// How many numbers a place is tried with.
-pub const NUMBERS: usize = 21;
-
-// The numbers for a place of the store with so many sets: the ends of ranges, and at or beside the same number of the set before and
-// of the set behind, the number behind it, and its own.
-pub fn number_for(k: usize, sets: u32, place: usize) -> u32
-    requires { place < 200 }
-{
-    let before = if place < 6 { 0 } else { place - 6 };
-    match k {
-        13 => store_number(sets, before),
-        14 => sum(store_number(sets, before), 1),
-        15 => store_number(sets, place + 6),
-        16 => difference(store_number(sets, place + 6), 1),
-        17 => store_number(sets, place + 1),
-        18 => sum(store_number(sets, place + 1), 1),
-        19 => difference(store_number(sets, place), 1),
-        20 => sum(store_number(sets, place), 1),
-        _ => end_of_range(k),
+// Stores without a set, of 0, 1, 192, 193 and 194 numbers; then those of 2 and of 32 sets, with every place altered to every number for it.
+pub fn every_store() -> Verdicts {
+    let mut count = Verdicts::default();
+    for length in [0, 1, 192, 193, 194] {
+        compare_store(&mut count, &[0; 194][..length]);
     }
-}
-
-// Every number for a place.
-fn numbers(mut count: Stores, sets: u32, place: usize) -> Stores
-    requires { place < 193 }
-{
-    let mut k = 0;
-    while k < NUMBERS {
-        let store = altered(sets, place, number_for(k, sets, place));
-        count = one_store(count, &store);
-        k += 1;
+    for sets in [2, 32] {
+        for place in 0..STORE_NUMBERS {
+            for number in numbers_for(sets, place) {
+                compare_store(&mut count, &altered(sets, place, number));
+            }
+        }
     }
     count
-}
-
-// Every place of the store with so many sets.
-fn places(mut count: Stores, sets: u32) -> Stores {
-    let mut place = 0;
-    while place < STORE_NUMBERS {
-        count = numbers(count, sets, place);
-        place += 1;
-    }
-    count
-}
-
-// Stores without a set, of 0, 1, 192, 193 and 194 numbers.
-fn lengths(count: Stores) -> Stores {
-    let store = [0; 194];
-    let short = one_store(one_store(count, &store[..0]), &store[..1]);
-    let near = one_store(one_store(short, &store[..192]), &store[..193]);
-    one_store(near, &store)
-}
-
-pub fn every_store() -> Stores {
-    let none = Stores {
-        accepted: 0,
-        refused: 0,
-    };
-    places(places(lengths(none), 2), 32)
 }

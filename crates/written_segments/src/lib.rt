@@ -1,17 +1,13 @@
 // An arrangement's segments, written into a slice that the caller lends. For the crates above, which have accepted figures.
 #![tactic(auto)]
 
-ghost use Rattle.std.specs.Prelude.{◌++◌, ◌≡◌, length, take, drop, suc, ◌+◌, ◌*◌, ◌≤◌, ◌<◌};
-ghost use Rattle.written_segments.specs.Segments.{numbers};
-ghost use Rattle.figures.specs.Bounds.{NationalIn, ShapeIn};
-ghost use Rattle.figures.specs.RoofRules.{roof_of};
-ghost use Rattle.loads.specs.Sizes.{Ground};
-ghost use Rattle.standard.specs.Arrangements.{count_in, stretch_in, count, stretch};
-ghost use Rattle.standard.specs.Bounds.{FiguresIn};
+ghost use Rattle.std.specs.Prelude.{◌++◌, ◌≡◌, length, drop, suc, ◌*◌, ◌≤◌, ◌<◌};
+ghost use Rattle.standard.specs.Arrangements.{count, stretch};
 ghost use Rattle.standard.specs.Stretch.{start_of, segment, segments};
-ghost use Rattle.standard.specs.Units.{parts, largest_position};
+ghost use Rattle.standard.specs.Units.{parts};
+ghost use Rattle.written_segments.specs.Segments.{numbers};
 
-use figures::{National, SPAN_NUMBERS, Shape, Site};
+use segments::Arrangement;
 
 // A segment: start and end in quarter millimetres, the loads there in N/m².
 #[derive(Clone, Copy)]
@@ -22,66 +18,42 @@ pub struct Segment {
     pub to: u32,
 }
 
-// The segment at an index of a persistent code under a factor, which starts where the one before ends.
-fn segment_at(
-    national: National,
-    shape: Shape,
-    spans: &[u32; SPAN_NUMBERS],
-    code: u8,
-    factor: u64,
-    sk: u64,
-    i: usize,
-    start: u32,
-) -> Segment
-    requires national_in { NationalIn national × ShapeIn shape spans.now × Ground factor sk × (i < count_in national shape code) }
-    requires start_value { (start ≡ start_of (stretch_in national shape spans.now factor sk code) i) × (start_of (stretch_in national shape spans.now factor sk code) (suc i) ≤ largest_position) }
-    ensures { (numbers result ≡ segment parts (stretch_in national shape spans.now factor sk code) i) × (result.end ≡ start_of (stretch_in national shape spans.now factor sk code) (suc i)) }
-{
-    let ramp = segments::ramp_in(national, shape, spans, code, factor, sk, i);
-    let from = segments::reading_in(ramp, 0);
-    let to = segments::reading_in(ramp, ramp.extent);
-    Segment {
-        start: start,
-        end: start + ramp.extent as u32,
-        from: from as u32,
-        to: to as u32,
+impl Segment {
+    // Its four numbers.
+    fn numbers(self) -> [u32; 4]
+        ensures { result ≡ numbers self }
+    {
+        [self.start, self.end, self.from, self.to]
     }
 }
 
-// Puts a segment's four numbers at a place of the slice.
-fn put(out: &mut [u32], at: usize, segment: Segment)
-    requires { at + 4 ≤ length out.old }
-    ensures { out.new ≡ take at out.old ++ numbers segment ++ drop (at + 4) out.old }
+// The segment at an index, which starts where the one before ends.
+fn segment_at(arrangement: &Arrangement, i: usize, start: u32) -> Segment
+    requires index_in { i < count arrangement.now.figures.now.national arrangement.now.figures.now.roof arrangement.now.code }
+    requires start_value { let f = arrangement.now.figures.now in start ≡ start_of (stretch f.national f.site f.roof arrangement.now.code) i }
+    ensures numbers { let f = arrangement.now.figures.now in numbers result ≡ segment parts (stretch f.national f.site f.roof arrangement.now.code) i }
+    ensures end { let f = arrangement.now.figures.now in result.end ≡ start_of (stretch f.national f.site f.roof arrangement.now.code) (suc i) }
 {
-    out[at] = segment.start;
-    out[at + 1] = segment.end;
-    out[at + 2] = segment.from;
-    out[at + 3] = segment.to;
+    let ramp = arrangement.ramp(i);
+    let extent = ramp.extent;
+    Segment {
+        start,
+        end: start + extent as u32,
+        from: ramp.reading(0) as u32,
+        to: ramp.reading(extent) as u32,
+    }
 }
 
-// Writes the n segments of an arrangement of accepted figures at the front of the slice, one after the other.
-pub fn write(
-    national: National,
-    site: Site,
-    shape: Shape,
-    spans: &[u32; SPAN_NUMBERS],
-    code: u8,
-    n: usize,
-    out: &mut [u32],
-)
-    requires { FiguresIn national site (roof_of shape spans.now) × (n ≡ count national (roof_of shape spans.now) code) × (4 * n ≤ length out.old) }
-    ensures { out.new ≡ segments parts (stretch national site (roof_of shape spans.now) code) n ++ drop (4 * n) out.old }
+// Writes the segments of an arrangement at the front of the slice, one after the other.
+pub fn write(arrangement: Arrangement, out: &mut [u32])
+    requires { 4 * count arrangement.figures.now.national arrangement.figures.now.roof arrangement.code ≤ length out.old }
+    ensures { let f = arrangement.entry.figures.now in let n = count f.national f.roof arrangement.entry.code in
+        out.new ≡ segments parts (stretch f.national f.site f.roof arrangement.entry.code) n ++ drop (4 * n) out.old }
 {
-    // The factor is the same for every segment.
-    let base = codes::base_code(code);
-    let factor = code_rules::factor(site, code);
-    let sk = site.sk as u64;
-    let mut start: u32 = 0;
-    let mut i = 0;
-    while i < n {
-        let segment = segment_at(national, shape, spans, base, factor, sk, i, start);
-        put(out, 4 * i, segment);
+    let mut start = 0;
+    for i in 0..arrangement.count() {
+        let segment = segment_at(&arrangement, i, start);
+        out[4 * i..4 * i + 4].copy_from_slice(&segment.numbers());
         start = segment.end;
-        i += 1;
     }
 }

@@ -9,6 +9,6 @@ put_segment-requires c = omega (arith, room c.loop-segment.invariant.wrote)
 pub loop-segment-preserved : goal.loop-segment-preserved
 loop-segment-preserved c = record {
   wrote = wrote_as (then c.loop-segment.invariant.wrote c.put_segment.ensures.wrote)
-      (rows_more c.args.item c.args.code c.args.segments.now c.loop-segment.segment-index c.loop-segment-test.true);
+      (rows_more c.args.heading.item c.args.heading.code c.args.segments.now c.loop-segment.segment-index c.loop-segment-test.true);
   place = omega arith;
 }

@@ -1,47 +1,69 @@
-use Rattle.figures.specs.RoofRules.{roof_of, kind_of, span_count}
+use Prim.Native.Nat.{◌+◌, ◌-◌, ◌≤◌}
 use mathlib.Core.Path.{◌≡◌, ap, ◌∙◌}
-use Prim.Native.Nat.{◌+◌, ◌≤◌}
+use Rattle.figures.specs.RoofRules.{kind_of, span_count}
 use Rattle.roof_rows.proofs.Counts.{spans_few, rows_within, last_low, rows_to_last}
-use Rattle.roof_rows.specs.Rows.{codes_rows, row_counts}
 use Rattle.roof_rows.proofs.Lines.{next_rows, next_count}
+use Rattle.roof_rows.specs.Rows.{codes_rows, row_counts}
 use Rattle.standard.specs.Codes.{highest_code, last_code}
 use Rattle.text.proofs.Writing.{then, none, room, wrote_as}
 use native.Mathlib.Omega.{arith}
 use Rattle.roof_rows.proofs.list_codes.Goals as goal
-use Rattle.roof_rows.proofs.list_codes.Goals.{After-last_code-last}
+use Rattle.roof_rows.proofs.list_codes.Goals.{After-last-code-end}
 
-last-is :
-    (c : After-last_code-last) → c.last_code-last.result ≡ last_code (kind_of c.args.shape) c.args.site.situation (span_count c.args.shape)
-last-is c = rw (c.kind_of-kind.ensures, c.span_count-count.ensures) at c.last_code-last.ensures
+last_is :
+    (c : After-last-code-end)
+    → c.last-code-end.result ≡ last_code (kind_of c.args.figures.now.roof.shape) c.args.figures.now.site.situation (span_count c.args.figures.now.roof.shape)
+last_is c = rw (c.of-codes.ensures.0, c.of-codes.ensures.1, c.of-codes.ensures.2) at c.last-code-end.ensures
 
-last-in : (c : After-last_code-last) → c.last_code-last.result ≤ highest_code
-last-in c =
-    rw (last-is c) (last_low _ _ (roof_of c.args.shape c.args.spans.now) c.requires.0)
+last_in : (c : After-last-code-end) → c.last-code-end.result ≤ highest_code
+last_in c = let f = c.args.figures.now in rw (last_is c) (last_low f.national f.site f.roof f.accepted)
+
+pub last-code-end-requires : goal.last-code-end-requires
+last-code-end-requires c = let f = c.args.figures.now in rw c.of-codes.ensures.2 (spans_few f.national f.site f.roof f.accepted)
 
 pub loop-code-init : goal.loop-code-init
 unfolding codes_rows row_counts
-loop-code-init c = (omega arith, omega arith, none _)
+loop-code-init c = (omega arith, none _)
 
-pub last_code-last-requires : goal.last_code-last-requires
-last_code-last-requires c =
-    rw c.span_count-count.ensures (spans_few _ _ (roof_of c.args.shape c.args.spans.now) c.requires.0)
-
-pub list_code-requires : goal.list_code-requires
-list_code-requires c =
-    let r = roof_of c.args.shape c.args.spans.now in
-    let n = next_count c.args.national c.args.site r 0 c.loop-code.code in
-    let w = rows_within c.args.national c.args.site r c.requires.0 (c.loop-code.code + 1) (omega (arith, last-in (goal.at.list_code-requires c).After-last_code-last)) in record { kind_value = (c.kind_of-kind.ensures, c.span_count-count.ensures); figures_in = (c.requires.0, omega (arith, n, w, c.loop-code.invariant.1, room c.loop-code.invariant.2, c.requires.1)) }
+pub list_code-requires-clause-room : goal.list_code-requires-clause-room
+list_code-requires-clause-room c =
+    let f = c.args.figures.now in
+    let low : c.loop-code.code ≤ highest_code = omega (arith, last_in (goal.at.list_code-requires-clause-room c).After-last-code-end) in
+    omega (
+      arith,
+      next_count f.national f.site f.roof c.loop-code.code (omega arith),
+      rows_within f.national f.site f.roof f.accepted c.loop-code.code low,
+      c.loop-code.invariant.0,
+      room c.loop-code.invariant.1,
+    )
 
 pub loop-code-preserved : goal.loop-code-preserved
 loop-code-preserved c =
-    let r = roof_of c.args.shape c.args.spans.now in (
-      omega arith,
-      omega (arith, next_count c.args.national c.args.site r 0 c.loop-code.code, c.list_code.ensures.upper_bound, c.loop-code.invariant.1),
-      wrote_as (then c.loop-code.invariant.2 c.list_code.ensures.wrote) (next_rows c.args.national c.args.site r c.args.item c.loop-code.code),
+    let f = c.args.figures.now in
+    let e : c.loop-code.code + 1 - 1 ≡ c.loop-code.code = omega arith in
+    rw e (
+      omega (arith, next_count f.national f.site f.roof c.loop-code.code (omega arith), c.list_code.ensures.upper_bound, c.loop-code.invariant.0),
+      wrote_as (then c.loop-code.invariant.1 c.list_code.ensures.wrote) (next_rows f.national f.site f.roof c.args.item c.loop-code.code (omega arith)),
     )
 
-pub returns : goal.returns
-returns c =
-    let r = roof_of c.args.shape c.args.spans.now in
-    let e : c.loop-code.code ≡ c.last_code-last.result = omega arith in
-    let z = ap (codes_rows c.args.national c.args.site r c.args.item) (e ∙ last-is (goal.at.returns c).After-last_code-last) in record { wrote = wrote_as c.loop-code.invariant.2 (z ∙ rows_to_last c.args.national c.args.site r c.requires.0 c.args.item); upper_bound = omega (arith, c.loop-code.invariant.1, rows_within c.args.national c.args.site r c.requires.0 c.loop-code.code (omega (arith, e, last-in (goal.at.returns c).After-last_code-last))) }
+pub returns-2-clause-wrote : goal.returns-2-clause-wrote
+returns-2-clause-wrote c =
+    let f = c.args.figures.now in
+    let end : c.loop-code.code ≡ last_code (kind_of f.roof.shape) f.site.situation (span_count f.roof.shape) =
+    let e : c.loop-code.code ≡ c.last-code-end.result = omega arith in
+    e ∙ last_is (goal.at.returns-2-clause-wrote c).After-last-code-end in
+    wrote_as (then c.loop-code.invariant.1 c.list_code.ensures.wrote)
+    (next_rows f.national f.site f.roof c.args.item c.loop-code.code (omega arith)
+    ∙ (ap (codes_rows f.national f.site f.roof c.args.item) end ∙ rows_to_last f.national f.site f.roof f.accepted c.args.item))
+
+pub returns-2-clause-upper_bound : goal.returns-2-clause-upper_bound
+returns-2-clause-upper_bound c =
+    let f = c.args.figures.now in
+    let low : c.loop-code.code ≤ highest_code = omega (arith, last_in (goal.at.returns-2-clause-upper_bound c).After-last-code-end) in
+    omega (
+      arith,
+      next_count f.national f.site f.roof c.loop-code.code (omega arith),
+      rows_within f.national f.site f.roof f.accepted c.loop-code.code low,
+      c.list_code.ensures.upper_bound,
+      c.loop-code.invariant.0,
+    )

@@ -16,9 +16,9 @@ pub loop-segment-preserved : goal.loop-segment-preserved
 loop-segment-preserved c =
     let l = c.loop-segment in
     let segment = get_or c.args.front.now l.segment-index [] in
-    let named = ap (λ (i : ℕ). row (i ∷ l.rows.code.number ∷ segment)) l.invariant.item ∙ ap (λ (k : ℕ). row (c.args.item ∷ k ∷ segment)) l.invariant.code in
+    let named = ap (λ (i : ℕ). row (i ∷ l.rows.code.number ∷ segment)) l.invariant.item ∙ ap (λ (k : ℕ). row (c.args.heading.item ∷ k ∷ segment)) l.invariant.code in
     record {
-      loose = loose_as (loosely 6 l.invariant.loose (loose_as c.put.ensures.loose named) (omega arith)) (rows_more c.args.item c.args.code c.args.front.now l.segment-index c.loop-segment-test.true);
+      loose = loose_as (loosely 6 l.invariant.loose (loose_as c.put.ensures.loose named) (omega arith)) (rows_more c.args.heading.item c.args.heading.code c.args.front.now l.segment-index c.loop-segment-test.true);
       place = omega arith;
       item = ap (λ (d : Digits). d.number) c.put.ensures.same.0 ∙ l.invariant.item;
       code = ap (λ (d : Digits). d.number) c.put.ensures.same.1 ∙ l.invariant.code;
@@ -28,8 +28,8 @@ pub returns-clause-wrote : goal.returns-clause-wrote
 returns-clause-wrote c =
     let front = c.args.front.now in
     let e : c.loop-segment.segment-index ≡ length front = omega arith in
-    let all = ap (λ (i : ℕ). rows_of c.args.item c.args.code (take i front)) e ∙ ap (rows_of c.args.item c.args.code) (take-length front) in
-    let covers : 6 ≤ length (row (c.args.item ∷ c.args.code ∷ c.args.last.now)) =
-    omega (arith, row_covers (c.args.item ∷ c.args.code ∷ c.args.last.now), c.told-last) in
+    let all = ap (λ (i : ℕ). rows_of c.args.heading.item c.args.heading.code (take i front)) e ∙ ap (rows_of c.args.heading.item c.args.heading.code) (take-length front) in
+    let covers : 6 ≤ length (row (c.args.heading.item ∷ c.args.heading.code ∷ c.args.last.now)) =
+    omega (arith, row_covers (c.args.heading.item ∷ c.args.heading.code ∷ c.args.last.now), c.told-last) in
     wrote_as (finish 6 (loose_as c.loop-segment.invariant.loose all) c.put_segment.ensures.wrote covers)
-    (sym (rows_append c.args.item c.args.code front c.args.last.now))
+    (sym (rows_append c.args.heading.item c.args.heading.code front c.args.last.now))

@@ -7,8 +7,8 @@ use Rattle.segment_rows.proofs.list_short.Given as goal
 
 abbrev pub invariant-loop-segment : goal.invariant-loop-segment
 invariant-loop-segment l = record {
-  loose : Loose 6 l.initial.out (rows_of l.item l.code (take l.segment-index l.front)) l.out;
+  loose : Loose 6 l.initial.out (rows_of l.heading.item l.heading.code (take l.segment-index l.front)) l.out;
   place : l.out.at ≤ l.initial.out.at + 66 * l.segment-index;
-  item : l.rows.item.number ≡ l.item;
-  code : l.rows.code.number ≡ l.code;
+  item : l.rows.item.number ≡ l.heading.item;
+  code : l.rows.code.number ≡ l.heading.code;
 }

@@ -1,26 +1,32 @@
-use mathlib.Core.Path.{◌≡◌, sym, ap, subst, ◌∙◌}
-use Rattle.ceilings.specs.Ceilings.{terminals}
+use Rattle.std.proofs.Common.{rules}
+use mathlib.Core.Path.{◌≡◌, ap, ◌∙◌}
 use Rattle.pairs.specs.Pairs.{accepted}
-use Rattle.sheet.specs.Sheet.{place, located_means}
-use Rattle.sheet.proofs.Kept.{located_of, located_with}
-use Rattle.sheet_figures.proofs.Sound.{found_placed, found_refused, found_accepted}
-use Rattle.sheet_figures.specs.Find.{found, FoundAccepted}
+use Rattle.sheet.specs.Sheet.{Place, place_by}
+use Rattle.sheet_figures.proofs.Sound.{sheet_refused, index_refused, index_below, item_found}
 use Rattle.sheet_figures.proofs.find.Goals as goal
-use Rattle.sheet_figures.proofs.find.Goals.{After-found_in, In-At}
+use Rattle.sheet_figures.proofs.find.Goals.{In_ok-pair}
 
-placed :
-    (c : In-At) → place c.args.store.now terminals c.args.s.now c.args.index ≡ accepted (record { start = c.in-At.field-0; bytes = c.in-At.field-1 })
-placed c = sym c.locate.ensures ∙ ap located_means c.in-At.is
+pub returns-in_err-sheet : goal.returns-in_err-sheet
+returns-in_err-sheet c =
+    let e = sheet_refused c.args.store.now c.args.s.now c.args.index _ _ c.in_err-sheet.ensures in
+    search rules
 
-answered : (c : After-found_in) → c.found_in.result ≡ found c.args.store.now c.args.s.now c.args.index
-answered c = c.found_in.ensures ∙ found_placed _ _ _ _ (sym c.locate.ensures ∙ ap located_means c.in-At.is)
+pub returns-in_err-pair : goal.returns-in_err-pair
+returns-in_err-pair c =
+    let f = rw c.in_ok-sheet.ensures.1 at c.in_err-pair.ensures in
+    let e = index_refused c.args.store.now c.args.s.now c.args.index _ _ _ c.in_ok-sheet.ensures.2 f in
+    search rules
+
+abbrev there : In_ok-pair → Place
+there c = record { start = c.in_ok-pair.field-0.offset; bytes = c.in_ok-pair.field-0.size }
+
+at : (c : In_ok-pair) → accepted (there c) ≡ place_by (accepted c.in_ok-sheet.sheet.items.count) c.args.s.now c.args.index
+at c = rw c.in_ok-sheet.ensures.1 at c.in_ok-pair.ensures
 
 pub found_in-requires : goal.found_in-requires
-found_in-requires c = (located_with _ _ _ _ _ (placed (goal.at.found_in-requires c).In-At), located_of _ _ _ _ _ (placed (goal.at.found_in-requires c).In-At))
+found_in-requires c = index_below c.args.store.now _ _ _ _ c.in_ok-sheet.ensures.2 (at (goal.at.found_in-requires c).In_ok-pair)
 
-pub returns-in-Nowhere : goal.returns-in-Nowhere
-returns-in-Nowhere c =
-    let told = sym c.locate.ensures ∙ ap located_means c.in-Nowhere.is in record { found = found_refused _ _ _ _ _ _ _ _ told c.recommended.ensures c.no_site.ensures c.no_roof.ensures; accepted = tt }
-
-pub returns-in-At : goal.returns-in-At
-returns-in-At c = record { found = answered (goal.at.returns-in-At c).After-found_in; accepted = subst FoundAccepted (sym (answered (goal.at.returns-in-At c).After-found_in)) (found_accepted c.args.store.now c.args.s.now c.args.index) }
+pub returns : goal.returns
+returns c =
+    let f = rw (c.in_ok-sheet.ensures.0, c.in_ok-sheet.ensures.1) at c.found_in.ensures in
+    ap accepted f ∙ item_found _ _ _ _ _ c.in_ok-sheet.ensures.2 (at (goal.at.returns c).In_ok-pair)

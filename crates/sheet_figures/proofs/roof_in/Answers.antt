@@ -1,13 +1,44 @@
-use Rattle.sheet_figures.proofs.Sound.{item_of, item_told, roof_is, sound_roof}
+use mathlib.Core.Path.{◌≡◌, sym, ap, ◌∙◌}
+use Rattle.std.specs.Prelude.{Ok}
+use Rattle.items.specs.Items.{content}
+use Rattle.item_forms.specs.declared.Item.TheVariants.{LowerItem}
+use Rattle.sheet.proofs.Kept.{accepted_is}
+use Rattle.upper_items.specs.Uppers.{item_at}
+use Rattle.sheet_figures.proofs.Sound.{later_roof, not_other, not_malformed, below_asked, own_roof, lower_roof}
 use Rattle.sheet_figures.proofs.roof_in.Goals as goal
+use Rattle.sheet_figures.proofs.roof_in.Goals.{After-decode, In-Ok, In-LowerItem}
 
-pub part_at-requires : goal.part_at-requires
-part_at-requires c = (item_of _ _ c.requires.0).1.part
+decoded : (c : After-decode) → item_at c.args.sheet.items.sheet.now c.args.i ≡ c.decode.result
+decoded c = sym (c.decode.ensures ∙ ap content c.part-p.ensures)
 
-pub shape_in-requires : goal.shape_in-requires
-shape_in-requires c =
-    (c.requires.0, item_told c.args.s.now _ c.decode-decoded.result c.decode-decoded.ensures c.args.i c.part_at.ensures)
+said : (c : In-Ok) → item_at c.args.sheet.items.sheet.now c.args.i ≡ Ok c.in-Ok.item
+said c = decoded (goal.at.In-Ok c).After-decode ∙ c.in-Ok.is
+
+lower : (c : In-LowerItem) → item_at c.args.sheet.items.sheet.now c.args.i ≡ Ok (LowerItem c.in-LowerItem.lower)
+lower c = said (goal.at.In-LowerItem c).In-Ok ∙ ap Ok c.in-LowerItem.is
+
+pub unreachable-requires : goal.unreachable-requires
+unreachable-requires c =
+    not_malformed c.in_default.field-0 (later_roof _ _ _ _ (accepted_is _ _ c.args.sheet.accepted) c.args.i c.requires.1 c.requires.0)
+    (decoded (goal.at.unreachable-requires c).After-decode ∙ c.in_default.is)
+
+pub shape_below-requires : goal.shape_below-requires
+shape_below-requires c = below_asked _ _ _ _ (accepted_is _ _ c.args.sheet.accepted) c.args.i c.requires.1 _ (lower (goal.at.shape_below-requires c).In-LowerItem)
+
+pub returns-in-LowerItem : goal.returns-in-LowerItem
+returns-in-LowerItem c =
+    lower_roof _ _ _ _ (accepted_is _ _ c.args.sheet.accepted) c.args.i c.requires.1 c.requires.0 _ _ (lower (goal.at.returns-in-LowerItem c).In-LowerItem)
+    (rw (c.shape_below.ensures, c.none.ensures))
+
+pub unreachable-requires-in_default-item-2 : goal.unreachable-requires-in_default-item-2
+unreachable-requires-in_default-item-2 c =
+    not_other (later_roof _ _ _ _ (accepted_is _ _ c.args.sheet.accepted) c.args.i c.requires.1 c.requires.0) (said (goal.at.unreachable-requires-in_default-item-2 c).In-Ok)
+    c.in_default-item-2.not-RoofItem c.in_default-item.not-LowerItem
+
+pub spans_in-requires : goal.spans_in-requires
+spans_in-requires c = sym c.decode.ensures ∙ (c.in-Ok.is ∙ ap Ok c.in-RoofItem.is)
 
 pub returns : goal.returns
 returns c =
-    sound_roof _ _ _ c.requires.1 c.requires.0 (roof_is _ _ c.decode-decoded.result c.decode-decoded.ensures _ _ c.part_at.ensures c.shape_in.ensures)
+    own_roof _ _ _ _ (accepted_is _ _ c.args.sheet.accepted) c.args.i c.requires.1 c.requires.0 _ _ (said (goal.at.returns c).In-Ok ∙ ap Ok c.in-RoofItem.is)
+    (rw (c.spans_in.ensures, c.part-p.ensures))

@@ -1,7 +1,6 @@
 use mathlib.Core.Path.{sym, ◌∙◌}
-use Rattle.items.specs.Items.{content}
 use Rattle.items.proofs.Lowers.{lower_length}
-use Rattle.upper_items.proofs.Lowers.{upper_byte, no_upper}
+use Rattle.upper_items.proofs.Lowers.{upper_byte}
 use native.Mathlib.Omega.{arith}
 use Rattle.upper_items.proofs.upper_index.Goals as goal
 
@@ -10,6 +9,3 @@ bounds-p-9 c = omega (arith, lower_length _ (sym c.is_lower.ensures ∙ c.if-is_
 
 pub returns-then-is_lower : goal.returns-then-is_lower
 returns-then-is_lower c = upper_byte _ (sym c.is_lower.ensures ∙ c.if-is_lower.true)
-
-pub returns-else-is_lower : goal.returns-else-is_lower
-returns-else-is_lower c = no_upper (content c.args.p.now).item (sym c.is_lower.ensures ∙ c.if-is_lower.false)

@@ -1,17 +1,20 @@
-use Prim.Native.Nat.{◌+◌, ◌≤◌}
+use mathlib.Core.Path.{◌∙◌}
 use native.Mathlib.Omega.{arith}
+use Rattle.segments.proofs.Starts.{next_start, next_most}
 use Rattle.written_segments.proofs.Writing.{segment_is}
-use Rattle.segments.proofs.Starts.{next_start}
-use Rattle.standard.specs.Units.{largest_position}
 use Rattle.written_segments.proofs.segment_at.Goals as goal
-use Rattle.written_segments.proofs.segment_at.Goals.{After-ramp_in-ramp}
-
-ends : (c : After-ramp_in-ramp) → c.args.start + c.ramp_in-ramp.result.extent ≤ largest_position
-ends c = rw (next_start _ _ _ _ c.requires.start_value.0 c.ramp_in-ramp.ensures.0) c.requires.start_value.1
 
 pub overflow_add-result : goal.overflow_add-result
-overflow_add-result c = omega (arith, ends (goal.at.overflow_add-result c).After-ramp_in-ramp)
+overflow_add-result c =
+    let f = c.args.arrangement.now.figures.now in
+    let is = c.ramp.view_is ∙ c.ramp-ramp.ensures in
+    omega (arith, next_most f.national f.site f.roof c.args.arrangement.now.code f.accepted c.args.i c.args.start _ c.requires.index_in c.requires.start_value is)
 
-pub returns : goal.returns
-returns c =
-    (segment_is _ _ _ _ c.requires.start_value.0 c.ramp_in-ramp.ensures.0 _ _ c.reading_in-from.ensures.0 c.reading_in-to.ensures.0, next_start _ _ _ _ c.requires.start_value.0 c.ramp_in-ramp.ensures.0)
+pub returns-clause-numbers : goal.returns-clause-numbers
+returns-clause-numbers c =
+    let from = rw (← c.ramp.view_is) at c.reading.ensures.0 in
+    let to = rw (← c.ramp.view_is) at c.reading-2.ensures.0 in
+    segment_is _ _ _ _ c.requires.start_value (c.ramp.view_is ∙ c.ramp-ramp.ensures) _ _ from to
+
+pub returns-clause-end : goal.returns-clause-end
+returns-clause-end c = next_start _ _ _ _ c.requires.start_value (c.ramp.view_is ∙ c.ramp-ramp.ensures)

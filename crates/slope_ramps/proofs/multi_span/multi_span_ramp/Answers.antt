@@ -1,39 +1,36 @@
-use Rattle.standard.specs.Coefficients.{guarded}
-use Rattle.slope_ramps.proofs.Slopes.{Own, inner, level_ramp, left_ramp, right_ramp}
+use mathlib.Core.Path.{◌≡◌, sym, ◌∙◌}
+use native.Mathlib.Nat.{add_comm}
 use native.Mathlib.Omega.{arith}
+use Prim.Native.Nat.{◌+◌, ◌-◌, ◌%◌}
+use Rattle.figures.specs.Spans.{slope_of}
+use Rattle.standard.specs.Coefficients.{guarded}
+use Rattle.standard.specs.MultiSpan.{own_load, valley_load}
+use Rattle.slope_ramps.proofs.Slopes.{inner, level_ramp, left_ramp, right_ramp}
 use Rattle.slope_ramps.proofs.multi_span.multi_span_ramp.Goals as goal
-use Rattle.slope_ramps.proofs.multi_span.multi_span_ramp.Goals.{After-slope_load-own}
 
-own :
-    (c : After-slope_load-own) → Own c.args.factor c.args.sk c.args.spans.now c.args.i c.slope_at-slope.result c.slope_load-own.result
-unfolding guarded
-own c =
-    let c = c in
-    record {
-      slope = c.slope_at-slope.ensures;
-      within = rw c.slope_at-slope.ensures c.requires.3;
-      load = c.slope_load-own.ensures;
-    }
-
-pub returns-then-undrifted-i : goal.returns-then-undrifted-i
-returns-then-undrifted-i c = rw c.even.ensures (level_ramp _ _ _ _ _ _ _ _ (own (goal.at.returns-then-undrifted-i c).After-slope_load-own) c.if-undrifted-i.true)
-
-pub across-requires : goal.across-requires
-across-requires c =
-    ((inner c.args.undrifted c.args.i c.args.count c.if-undrifted-i.false).0, omega arith)
-
-pub slope_at-other-requires : goal.slope_at-other-requires
-slope_at-other-requires c =
-    omega (arith, (inner c.args.undrifted c.args.i c.args.count c.if-undrifted-i.false).1, c.across.ensures.1)
+pub returns-then-is_level : goal.returns-then-is_level
+unfolding slope_of own_load guarded
+returns-then-is_level c =
+    level_ramp _ _ _ _ _ c.args.spans.now _ 0 c.slope_load-own.ensures.0 _ (sym c.is_level.ensures ∙ c.if-is_level.true)
+    (rw c.from-extent.ensures at c.even.ensures)
 
 pub returns-then-i-eq0 : goal.returns-then-i-eq0
+unfolding slope_of own_load valley_load guarded
 returns-then-i-eq0 c =
-    rw c.whole.ensures
-    (left_ramp _ _ _ _ _ _ _ _ (own (goal.at.returns-then-i-eq0 c).After-slope_load-own) _ _ _ c.across.ensures.0 c.slope_at-other.ensures
-    c.valley_load-valley.ensures c.if-undrifted-i.false c.if-i-eq0.true)
+    let l = c.args.spans.now in
+    let i = c.args.i in
+    let drifted = sym c.is_level.ensures ∙ c.if-is_level.false in
+    let before = rw c.if-i-eq0.true at c.across.ensures.0 in
+    let same : i - 1 + 1 ≡ i = omega (arith, (inner _ i c.args.count drifted).0) in
+    left_ramp _ _ _ _ _ l _ _ c.slope_load-own.ensures.0 _ drifted c.if-i-eq0.true
+    (rw (same, ← before, add_comm (slope_of l c.across.result).pitch (slope_of l i).pitch) c.valley_load-valley.ensures.0)
+    (rw c.from-extent.ensures at c.whole.ensures)
 
 pub returns : goal.returns
+unfolding slope_of own_load valley_load guarded
 returns c =
-    rw c.whole-2.ensures
-    (right_ramp _ _ _ _ _ _ _ _ (own (goal.at.returns c).After-slope_load-own) _ _ _ c.across.ensures.0 c.slope_at-other.ensures
-    c.valley_load-valley.ensures c.if-undrifted-i.false (omega (arith, c.if-i-eq0.false)))
+    let odd : c.args.i % 2 ≡ 1 = omega (arith, c.if-i-eq0.false) in
+    let after = rw odd at c.across.ensures.0 in
+    right_ramp _ _ _ _ _ c.args.spans.now _ _ c.slope_load-own.ensures.0 _ (sym c.is_level.ensures ∙ c.if-is_level.false) odd
+    (rw (← after) c.valley_load-valley.ensures.0)
+    (rw c.from-extent.ensures at c.whole-2.ensures)

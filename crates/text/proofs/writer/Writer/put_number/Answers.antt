@@ -2,6 +2,7 @@ use mathlib.Core.Path.{refl, sym, ap, ◌∙◌}
 use mathlib.Core.List.{List, ◌++◌}
 use lib.ListN.{length, drop}
 use Prim.Native.Nat.{ℕ, ◌+◌}
+use Rattle.std.specs.Fmt as std
 use Rattle.text.specs.Text.{decimal}
 use Rattle.text.proofs.Writing.{short, as_std, ended}
 use native.Mathlib.Omega.{arith}
@@ -12,12 +13,12 @@ overflow_add-end c = omega (arith, short c.args.number, c.digit_count.ensures)
 
 pub write_digits-requires : goal.write_digits-requires
 write_digits-requires c =
-    let e = ap length (as_std c.args.number c.ranges.number.fits) in
+    let e = ap length (as_std c.args.number c.ranges.number.fits ∙ ap std.decimal (sym c.from.ensures)) in
     (omega (arith, e), omega (arith, short c.args.number))
 
 pub returns : goal.returns
 returns c =
-    let same = as_std c.args.number c.ranges.number.fits in
+    let same = as_std c.args.number c.ranges.number.fits ∙ ap std.decimal (sym c.from.ensures) in
     let e = ap length same in
     let out = c.args.self.now.bytes.now in
     record {

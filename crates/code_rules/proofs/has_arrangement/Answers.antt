@@ -1,4 +1,0 @@
-use Rattle.code_rules.proofs.has_arrangement.Goals as goal
-
-pub returns : goal.returns
-returns c = cc
