@@ -9,7 +9,7 @@ use figures::{Refusal, Roof, Site};
 use roof_arrangements::make_in;
 
 // Makes the arrangement of a code, with the national figures that the site's job uses: its segments at the front of the slice, four
-// numbers each. The answer is how many there are; a refusal alters nothing.
+// numbers each. The answer is how many there are; a refusal alters nothing. Apart from reading a load, which makes another call.
 #[tactic(auto, unfolding(standard::specs::Answers::make_answer, standard::specs::Answers::after_rules))]
 pub fn make(
     store: &[u32],

@@ -12,6 +12,7 @@ pub fn upper_of(upper: &[u8], i: usize) -> usize
 }
 
 // Whether following upper items from roof i, one of n items, comes back to it. It ends at the site, which has none above it.
+// The table is as long as the largest sheet's, since there is no heap, so n stands beside it.
 pub fn comes_back(upper: &[u8], n: usize, i: usize) -> bool
     requires { (0 < i) × (upper_in upper.now 0 ≡ 0) }
     ensures { result ≡ comes_back (upper_in upper.now) n i }

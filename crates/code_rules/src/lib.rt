@@ -10,7 +10,7 @@ ghost use Rattle.standard.specs.Codes.{exists_in};
 use codes::{RoofCodes, is_accidental};
 use figures::{Shape, Site};
 
-// Cesl, or 1 for a persistent code, in hundredths.
+// Cesl, or 1 for a persistent code, in hundredths. The site's bounds are asked for, since accepted figures and a sited shape both keep them.
 fn exceptional_factor(site: Site, code: u8) -> u16
     requires { SiteIn site }
     ensures { (result ≡ exceptional_of site code) × (result ≤ 300) }

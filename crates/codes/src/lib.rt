@@ -58,7 +58,7 @@ impl RoofCodes {
             || drifts && named_valley(self.spans, code).is_some()
     }
 
-    // The last code that may exist.
+    // The last code that may exist, a number as any that may be asked for.
     pub fn last(self) -> u8
         requires { self.spans ≤ 16 }
         ensures { result ≡ last_code (kind_number self.kind) self.situation self.spans }
@@ -92,7 +92,7 @@ pub fn is_accidental(code: u8) -> bool
     (11..=13).contains(&code)
 }
 
-// The persistent code of the same shape.
+// The persistent code of the same shape, a number as any that may be asked for.
 pub fn base_code(code: u8) -> u8
     ensures { result ≡ base_code code }
 {

@@ -33,6 +33,7 @@ fn put_digits(out: &mut Writer, digits: Digits, behind: u8)
 }
 
 impl Rows {
+    // Before the first row the numbers at hand are the item's: any digits do, since they are told by their number.
     pub fn new(heading: Heading) -> Rows
         requires { (heading.item < 100000000) × (heading.code < 100000000) }
         ensures { (result.item.number ≡ heading.item) × (result.code.number ≡ heading.code) }

@@ -9,7 +9,7 @@ ghost use Rattle.digits.specs.Words.{bytes_of};
 
 use pairs::four;
 
-// Numbers from here on have more than eight digits.
+// Numbers from here on have more than eight digits. That one is below is asked for: a row tests its four numbers once.
 pub const LONG: u32 = 100_000_000;
 
 // The number's text is the `len` lowest bytes of the word, the lowest first.

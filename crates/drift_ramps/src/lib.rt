@@ -1,4 +1,5 @@
-// The ramps of roofs with drifts: cylindrical roofs, lower roofs at a taller one, and projections. Code 1 is without drifts.
+// The ramps of roofs with drifts: cylindrical roofs, lower roofs at a taller one, and projections. Code 1 is without drifts: codes are told
+// by document 01's numbers.
 // These calls are for the crates above: what they require, accepted figures keep. Each names what it uses of its own shape: a type for each
 // accepted shape, and one for accepted national figures, would say their fields again.
 #![tactic(auto)]

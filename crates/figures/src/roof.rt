@@ -83,7 +83,7 @@ impl Shape {
         }
     }
 
-    // How many spans a multi-span roof has; any other has none, 0.
+    // How many spans a multi-span roof has; any other has none, 0, which codes count as they stand.
     pub fn span_count(self) -> u8
         ensures { result ≡ span_count self }
     {

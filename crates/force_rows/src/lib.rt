@@ -11,7 +11,7 @@ use figures::SitedShape;
 use local_forces::{guard_force_at, overhang_at};
 use text::Writer;
 
-// The numbers in front of a row of a force.
+// The documents' numbers in front of a row of a force.
 const OVERHANG: u32 = 21;
 
 const GUARD_FORCE: u32 = 22;

@@ -24,7 +24,7 @@ fn no_arrangement(item: usize) -> Refused
     }
 }
 
-// The count of segments of an arrangement, or a refusal.
+// The count of segments of an arrangement, or a refusal. Apart from `load_at`: they differ in the call, its arguments and its answer.
 pub fn make_at(
     found: Result<Found, Refused>,
     item: usize,
@@ -60,7 +60,7 @@ pub fn load_at(
     }
 }
 
-// The overhang at a slope, none, or a refusal. The site has no forces.
+// The overhang at a slope, none, or a refusal. The site has no forces. Apart from `guard_force_at`: each is the one call that it makes.
 pub fn overhang_at(
     found: Result<Found, Refused>,
     item: usize,

@@ -16,7 +16,8 @@ use roof_items::{
 use site_items::{map_site_item, site_item};
 use span_items::{drifted_item, multi_span_item};
 
-// What an item's bytes say. It asks for its kind and its length alone; the value rules are the figures'.
+// What an item's bytes say. It asks for its kind and its length alone; the value rules are the figures'. One match names each kind's
+// function once: a table of functions would stand beside it.
 pub fn decode(p: &[u8]) -> Result<Item, Refusal>
     ensures { result ≡ content p.now }
 {

@@ -34,7 +34,7 @@ pub fn overhang_at(sited: SitedShape, slope: u8) -> Option<u32>
     None
 }
 
-// The overhang at the eave of a slope.
+// The overhang at the eave of a slope. Apart from `guard_force`, which makes another call under another contract.
 #[tactic(auto, unfolding(standard::specs::Forces::overhang_answer))]
 pub fn overhang(store: &[u32], site: Site, roof: Roof, slope: u8) -> Result<Option<u32>, Refusal>
     ensures answer { force_means result ≡ overhang_answer store.now site roof slope }

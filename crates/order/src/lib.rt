@@ -31,7 +31,8 @@ fn next_roof(upper: &[u8], marks: &[bool], n: usize) -> Option<usize>
     (1..n).find(|i| is_ready(upper, marks, *i))
 }
 
-// Writes the roofs of a sheet of n items in the order of the listing, and answers how many. Bytes behind them stay.
+// Writes the roofs of a sheet of n items in the order of the listing, and answers how many. Bytes behind them stay. The tables are as long
+// as the largest sheet's, since there is no heap, so n stands beside them.
 pub fn list_order(upper: &[u8], n: usize, out: &mut [u8]) -> usize
     requires { (n ≤ 32) × (n ≤ length out.old) }
     ensures value { (result ≡ length (order (upper_in upper.now) n)) × (result ≤ n) }

@@ -28,7 +28,7 @@ impl Pair {
     }
 }
 
-// The word of a pair's four bytes.
+// The word of a pair's four bytes. It, `split` and `join` are calls and no `From`, since document 02 asks for callable parts.
 pub fn word(first: u8, second: u8, third: u8, fourth: u8) -> u32
     ensures { result ≡ word_of first second third fourth }
 {

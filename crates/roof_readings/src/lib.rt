@@ -10,7 +10,7 @@ ghost use Rattle.standard.specs.Units.{largest_position, largest_load};
 use figures::{AcceptedFigures, Refusal};
 use segments::{Arrangement, Ramp};
 
-// What a segment that starts at start reads at a station, 0 where it does not hold the station.
+// What a segment that starts at start reads at a station, 0 where it does not hold the station: 0 is never the greater.
 #[tactic(auto, using(std::proofs::lemmas::Bool::Decides::nat_tests), unfolding(crate::specs::Reading::value_of, standard::specs::Stretch::holds))]
 fn read(ramp: Ramp, start: u64, station: u64) -> u64
     requires { start ≤ largest_position }

@@ -16,7 +16,7 @@ use segments::Arrangement;
 use text::Writer;
 use written_segments::write;
 
-// The numbers of the largest arrangement: 32 segments, four numbers each.
+// The numbers of the largest arrangement: 32 segments, four numbers each. All are lent, since the terminals have no heap.
 pub const NUMBERS: usize = 128;
 
 // Writes the rows of an arrangement that exists.

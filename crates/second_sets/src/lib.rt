@@ -6,6 +6,7 @@ use figures::National;
 use std::iter::Take;
 use std::slice::Iter;
 
+// A store's numbers and most sets, once more: nothing of the library's own plays a part in this reading.
 pub const STORE_NUMBERS: usize = 193;
 
 const MOST_SETS: u32 = 32;

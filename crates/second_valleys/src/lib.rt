@@ -10,7 +10,7 @@ use second_slopes::slope_start;
 // Bare, up to the valley, down from it, bare.
 pub const DRIFT_SEGMENTS: usize = 4;
 
-// The index of the valley of a drift's code, from 0 at the left.
+// The index of the valley of a drift's code, from 0 at the left; other codes don't come here.
 fn valley_of(code: u8) -> usize
     ensures { result < 15 }
 {

@@ -28,7 +28,7 @@ pub fn count_in(figures: &AcceptedFigures, code: u8) -> usize
     }
 }
 
-// The stretch at an index, with its break loads.
+// The stretch at an index, with its break loads. Codes are told by document 01's numbers.
 #[tactic(auto, unfolding(standard::specs::Arrangements::stretch_in, standard::specs::Monopitch::monopitch))]
 pub fn ramp_in(figures: &AcceptedFigures, code: u8, ground: Ground, i: usize) -> Ramp
     requires { i < count_in figures.now.national figures.now.roof.shape code }

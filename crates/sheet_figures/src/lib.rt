@@ -39,7 +39,7 @@ pub fn site_in(sheet: Sheet) -> Site
     site
 }
 
-// The shape of a lower roof by its upper item, which may stand above it.
+// The shape of a lower roof by its upper item, which may stand above it: it is no item's own shape, so no type of an item keeps it.
 fn shape_below(sheet: Sheet, lower: LowerRoof) -> Shape
     requires { (lower.upper < sheet.items.count) × (is_upper (item_at sheet.items.sheet.now lower.upper) ≡ true)
         × AcceptedShape (upper_shape (item_at sheet.items.sheet.now lower.upper)) }

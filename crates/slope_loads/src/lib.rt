@@ -11,7 +11,7 @@ use loads::Ground;
 use roof_slopes::slope_of;
 use standard::PARTS;
 
-// The persistent code of the undrifted load.
+// The persistent code of the undrifted load, by document 01's number.
 const UNDRIFTED: u8 = 1;
 
 // S, the slope's code 1 load in whole N/m². By a site and a slope: it asks no more than their bounds, which accepted figures keep.
@@ -27,7 +27,7 @@ pub fn whole_load(site: Site, slope: GuardedSlope) -> u64
     rounding::ceil_div(ground.slope_load(slope, false), PARTS)
 }
 
-// S of a slope by its number, and 0 where the roof has none of that number.
+// S of a slope by its number, and 0 where the roof has none of that number: 0 is never the larger.
 #[tactic(auto, using(figures::proofs::Accepted::site_in, figures::proofs::Sides::one_in), unfolding(standard::specs::Forces::whole_at))]
 fn load_of(sited: SitedShape, number: u8) -> u64
     ensures { (result ≡ whole_at sited.site (slope_at sited.shape number)) × (result ≤ 24000) }

@@ -47,7 +47,7 @@ pub fn multi_span_ramp(spans: &Spans, count: usize, code: u8, ground: Ground, i:
     Ramp::whole(extent, own, valley)
 }
 
-// The widths of slopes together.
+// The widths of slopes together, by a loop: a chain's sum would need a lemma that says the same.
 fn widths_of(slopes: &[Slope]) -> u64
     requires { length slopes.now ≤ 32 }
     ensures { (result ≡ sum_by (λ slope. slope.width) slopes.now) × (result ≤ 4294967295 * length slopes.now) }

@@ -23,7 +23,8 @@ pub fn guarded_fields(guarded: GuardedSlope) -> bool
 }
 
 // Whether every field of the first n slopes lies in its range. The chain goes over indexes as the definition does: over a slice it would
-// need a lemma that both go over the same slopes. That of the valleys stands apart, since its array and its fields are others.
+// need a lemma that both go over the same slopes. The arrays are as long as the widest roof's, so n stands beside them. That of the
+// valleys stands apart, since its array and its fields are others.
 #[tactic(auto, unfolding(figures::specs::Spans::slope_of))]
 fn slopes_fields(spans: &Spans, n: usize) -> bool
     requires { n ≤ 32 }

@@ -20,7 +20,8 @@ pub fn is_upper(item: &Item) -> bool
     }
 }
 
-// The width of a slope by its number, 0 where the roof has none of that number.
+// The width of a slope by its number, 0 where the roof has none of that number: 0 adds nothing. What is asked of an upper shape is no
+// item's own shape, so no type of an item keeps it.
 fn slope_width(shape: Shape, number: u8) -> u32
     requires { AcceptedShape shape }
     ensures { (result ≡ slope_width (slope_at shape number)) × (result ≤ 100000) }
@@ -58,7 +59,8 @@ fn flat_slope(width: u32) -> GuardedSlope
     }
 }
 
-// The upper roof that an item is. Above another, a lower roof is a flat roof of one slope.
+// The upper roof that an item is. Above another, a lower roof is a flat roof of one slope. The definition has a shape for a site too, which
+// no roof stands below.
 pub fn upper_shape(item: &Item) -> Shape
     ensures { result ≡ upper_shape (Ok item.now) }
 {

@@ -23,7 +23,7 @@ impl Outcome {
     }
 }
 
-// Whether the listing of the sheet is the text, byte for byte.
+// Whether the listing of the sheet is the text, byte for byte. The room comes from the heap, so its least length is asked for.
 fn agrees(store: &[u32], stored: Record<'_>, room: &mut [u8]) -> bool
     requires { list_room ≤ length room.old }
     ensures { IsTrue result ↔ (listing store.now stored.entry.sheet.now ≡ stored.entry.text.now) }

@@ -17,7 +17,7 @@ use records::{Damaged, Records};
 use report::Totals;
 use std::{fs, io};
 
-// Room for any file's name.
+// Room for any file's name. `worked` has its own: sharing the number would be no shorter.
 const PATH_ROOM: usize = 4_096;
 
 // Compares the records of a file in turn and writes what they came to; the room takes one listing after the other.

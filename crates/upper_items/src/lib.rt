@@ -10,7 +10,7 @@ use items::is_lower;
 use order::{list_by_index, list_order};
 use pairs::Items;
 
-// The most items that a sheet has.
+// The most items that a sheet has. Tables of items are as long, since the terminals have no heap.
 pub const ITEMS: usize = 32;
 
 // Where the index of its upper item stands in a lower roof's item. That it agrees with what the item says is proved: no item is

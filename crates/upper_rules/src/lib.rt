@@ -44,7 +44,7 @@ fn check_uppers(items: Items) -> Result<usize, Refused>
     in_turn(0, items.count(), |i| check_upper(items, i))
 }
 
-// 17 over the roofs of n items, by a table of their upper items.
+// 17 over the roofs of n items, by a table of their upper items. It is as long as the largest sheet's, since there is no heap.
 fn check_circles(upper: &[u8], n: usize) -> Result<usize, Refused>
     requires { upper_in upper.now 0 ≡ 0 }
     ensures { verdict_means result ≡ in_turn (λ i. refused_if (comes_back (upper_in upper.now) n i) 17) n 1 (n - 1) }

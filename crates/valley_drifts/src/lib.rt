@@ -1,5 +1,6 @@
 // Exceptional drifts in the valleys of a multi-span roof (Annex B, B2).
-// These calls are for the crates above: what they require, accepted figures keep.
+// These calls are for the crates above: what they require, accepted figures keep. Each names what it uses: a drift takes sk
+// alone, since no factor plays a part in it.
 #![tactic(auto)]
 
 ghost use Rattle.std.specs.Prelude.{◌≡◌, ℕ, suc, ◌+◌, ◌*◌, ◌≤◌, ◌<◌};

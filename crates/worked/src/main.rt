@@ -14,7 +14,7 @@ use program_inputs::argument;
 use report::Report;
 use std::fs;
 
-// Room for any file's name.
+// Room for any file's name. `trials` has its own: sharing the number would be no shorter.
 const PATH_ROOM: usize = 4_096;
 
 // Compares the lines of the file that an argument names.

@@ -9,6 +9,7 @@ pub struct Given<'a> {
     pub roof: &'a Roof,
 }
 
+// One line a call: they differ in the call and its arguments.
 impl Given<'_> {
     // How many segments the maker puts into a slice.
     pub fn make(&self, code: u8, out: &mut [u32]) -> Result<usize, u8> {

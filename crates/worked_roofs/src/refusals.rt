@@ -4,7 +4,8 @@ use crate::made::Made;
 use counts::Compared;
 use second::{LoadCase, roof_end};
 
-// A slice that is too short, and a station past the roof's end, by the documents' numbers.
+// A slice that is too short, and a station past the roof's end, by the documents' numbers: the library's
+// own refusals play no part in what it is held against.
 const SLICE: u8 = 11;
 
 const PAST_THE_END: u8 = 12;

@@ -1,10 +1,10 @@
 // What the calls on figures answer about a lower roof in code 2, with refusals by the documents' numbers.
 use figures::{AbuttingRoof, GuardedSlope, Roof, Shape, Site, Slope, Spans};
 
-// The code of the roof's load at the wall, which has every figure that a set gives to walls.
+// The code of the roof's load at the wall, which has every figure that a set gives to walls: document 01's number.
 pub const CODE: u8 = 2;
 
-// What stands in the slice before a call: no position and no load.
+// What stands in the slice before a call: no position and no load. `worked_roofs` has its own.
 const BLANK: u32 = 4_000_000_001;
 
 // A site with a job of a day, whose figures are in their ranges.
