@@ -16,6 +16,7 @@ fn mu1_numerator(pitch: u32) -> u64
     match pitch {
         0..=300 => 300,
         301..=599 => 600 - u64::from(pitch),
+        600..=800 => 0,
         _ => 0,
     }
 }
