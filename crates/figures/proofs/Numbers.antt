@@ -33,7 +33,8 @@ numbered NoSetBegun = omega arith
 -- the refusals in the order of their numbers, from 1
 refusals : List Refusal
 refusals =
-    SheetLimits ∷ Pair ∷ UnknownKind ∷ ItemLength ∷ SitePlace ∷ SiteField ∷ Altitude ∷ RoofField ∷ ValleyPitch ∷ Rise ∷ Slice ∷ PastTheEnd ∷ NoArrangement ∷ RegionOrZone ∷ MapLoad ∷ UpperItem ∷ Circle ∷ Store ∷ NoSetBegun ∷ []
+    SheetLimits ∷ Pair ∷ UnknownKind ∷ ItemLength ∷ SitePlace ∷ SiteField ∷ Altitude ∷ RoofField ∷ ValleyPitch ∷ Rise ∷
+    Slice ∷ PastTheEnd ∷ NoArrangement ∷ RegionOrZone ∷ MapLoad ∷ UpperItem ∷ Circle ∷ Store ∷ NoSetBegun ∷ []
 
 -- the refusal of a number
 abbrev of_number : ℕ → Refusal

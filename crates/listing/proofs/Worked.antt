@@ -101,8 +101,8 @@ other (suc zero) a b = refl
 other (suc (suc i)) a b = absurd (omega arith)
 
 pub beside : GivenLoad empty map_sheet given_sheet 2
-unfolding pairs_verdict in_turn pair_number item_number content by_kind map_site_item day_at job_refusal day_refusal set_in_use site_data_refusal map_refusal ground_load expression zone_load row_of rows
-    first_of rounded_up ceil_div sheet_site given_item
+unfolding pairs_verdict in_turn pair_number item_number content by_kind map_site_item day_at job_refusal day_refusal set_in_use site_data_refusal map_refusal ground_load expression
+    zone_load row_of rows first_of rounded_up ceil_div sheet_site given_item
 beside =
     record {
       pairs = refl;

@@ -36,6 +36,13 @@ pub chosen : (P : Fraction → Type 0) (e f : Fraction) (b : Bool) → (b ≡ tr
 chosen P e f true p q = p refl
 chosen P e f false p q = q refl
 
+-- a half and two thirds, either way round
+pub half_and_two_thirds :
+    (smaller (over 1 2) (over 2 3) ≡ over 1 2) × (smaller (over 2 3) (over 1 2) ≡ over 1 2) × (larger (over 1 2) (over 2 3) ≡ over 2 3)
+    × (larger (over 2 3) (over 1 2) ≡ over 2 3)
+unfolding smaller larger
+half_and_two_thirds = (refl, refl, refl, refl)
+
 module _ (P : Fraction → Type 0) (e f : Fraction) where
   pub smaller_is : (Below e f → P e) → (Below f e → P f) → P (smaller e f)
   unfolding smaller Below

@@ -55,8 +55,8 @@ shed width = 2 ∷ 0 ∷ 0 ∷ 0 ∷ width ∷ 0 ∷ 0 ∷ 0 ∷ []
 pub own_rules_first :
     (stepped 2 (shed 1) ∷ stepped 0 (shed 1) ∷ stepped 1 (shed 1) ∷ stepped 0 (shed 0) ∷ stepped 1 (shed 0) ∷ stepped 3 (255 ∷ []) ∷ [])
     ≡ (accepted 3 ∷ refused 16 1 ∷ refused 17 1 ∷ refused 8 2 ∷ refused 8 2 ∷ refused 3 2 ∷ [])
-unfolding sheet_verdict store_verdict store_refusal sets_sound rules_verdict pairs_verdict in_turn pair_number item_number uppers_verdict upper_number circle_number comes_back meets upper content by_kind
-    site_item day_at monopitch_item lower_item job_refusal day_refusal set_in_use site_data_refusal site_refusal shape_refusal first_of
+unfolding sheet_verdict store_verdict store_refusal sets_sound rules_verdict pairs_verdict in_turn pair_number item_number uppers_verdict upper_number circle_number comes_back meets
+    upper content by_kind site_item day_at monopitch_item lower_item job_refusal day_refusal set_in_use site_data_refusal site_refusal shape_refusal first_of
 own_rules_first = refl
 
 -- a site alone with a job day of 100, and a store whose one set begins on a day

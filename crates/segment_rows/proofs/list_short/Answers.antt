@@ -17,8 +17,9 @@ loop-segment-preserved c =
     let l = c.loop-segment in
     let segment = get_or c.args.front.now l.segment-index [] in
     let named = ap (λ (i : ℕ). row (i ∷ l.rows.code.number ∷ segment)) l.invariant.item ∙ ap (λ (k : ℕ). row (c.args.heading.item ∷ k ∷ segment)) l.invariant.code in
+    let more = rows_more c.args.heading.item c.args.heading.code c.args.front.now l.segment-index c.loop-segment-test.true in
     record {
-      loose = loose_as (loosely 6 l.invariant.loose (loose_as c.put.ensures.loose named) (omega arith)) (rows_more c.args.heading.item c.args.heading.code c.args.front.now l.segment-index c.loop-segment-test.true);
+      loose = loose_as (loosely 6 l.invariant.loose (loose_as c.put.ensures.loose named) (omega arith)) more;
       place = omega arith;
       item = ap (λ (d : Digits). d.number) c.put.ensures.same.0 ∙ l.invariant.item;
       code = ap (λ (d : Digits). d.number) c.put.ensures.same.1 ∙ l.invariant.code;

@@ -38,7 +38,9 @@ all c =
 
 pub invariant_of-result : goal.invariant_of-result
 invariant_of-result c =
-    record { accepted = rw (c.in_ok-store.ensures.lent, c.in_ok-items.ensures.0) (caller_accepts _ c.args.caller _ _ (sym c.in_ok-store.ensures.refusal) (all (goal.at.invariant_of-result c).In_ok-check_rules)) }
+    let a = all (goal.at.invariant_of-result c).In_ok-check_rules in
+    let k = caller_accepts _ c.args.caller _ _ (sym c.in_ok-store.ensures.refusal) a in
+    record { accepted = rw (c.in_ok-store.ensures.lent, c.in_ok-items.ensures.0) k }
 
 pub returns : goal.returns
 returns c = (c.in_ok-store.ensures.lent, c.in_ok-items.ensures.0, all (goal.at.returns c).In_ok-check_rules)
