@@ -33,7 +33,7 @@ extern "C" {
  *  4 an item that is empty or not of its kind's length (a site has two: without a job day and with one)
  *  5 a first item that is no site, or a later site
  *  6 a site's field outside its range, altitude apart (a situation above 3 too); 7 an altitude above 1,500 m
- *  8 a roof's field outside its range (of kinds 4 and 9 a count of spans outside 2..16 too)
+ *  8 a roof's field outside its range (of kinds 4 and 9 a count of spans outside 2..16 too, of kind 12 a height above 1,000)
  *  9 a valley of kind 4 or 9 too steep; 10 a rise above half the span
  * 11 a slice shorter than four numbers a segment
  * 12 a station past the roof's end, or an index not below the count
@@ -78,9 +78,9 @@ uint32_t snow_verdict(const uint32_t *store, size_t numbers, const uint8_t *shee
 uint32_t snow_desk_verdict(const uint32_t *store, size_t numbers, const uint8_t *sheet, size_t length);
 
 /* Codes of arrangements: 1, 2, 3 persistent snow; 11, 12, 13 the same shapes with exceptional falls; 30 + j, at most 45,
- * an exceptional drift in valley j of a roof of kind 9. Situations (Annex A): 0 case A, 1 B1, 2 B2, 3 B3. Codes 12 and 13
- * belong to situation 1, 11 to 1 and 3, drifts to 2 and 3, where kind 9 has no code 2. Kind 10
- * has the codes of kind 6. */
+ * an exceptional drift in valley j of a roof of kind 9; 31 the one code of kinds 11 and 12, the drift at a parapet or at a
+ * projection up to 1 m high. Situations (Annex A): 0 case A, 1 B1, 2 B2, 3 B3. Codes 12 and 13 belong to situation 1, 11 to
+ * 1 and 3, drifts to 2 and 3, where kind 9 has no code 2. Kind 10 has the codes of kind 6. */
 
 /* Writes the segments of an item's arrangement at the front of out, four numbers each: start, end, load, load.
  * Numbers behind them keep their values. 128 numbers are room for any arrangement.

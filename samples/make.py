@@ -69,6 +69,16 @@ def stepped(lower_width, step, upper, side):
     return struct.pack("<BIIBB", 10, lower_width, step, upper, side)
 
 
+def parapet(height, width, other_width):
+    """The roof behind the parapet is width long, b1; other_width is b2."""
+    return struct.pack("<BIII", 11, height, width, other_width)
+
+
+def small_projection(heights, widths):
+    """Heights of the projection, up to 1,000, and widths of the roof, left then right."""
+    return struct.pack("<BIIII", 12, *heights, *widths)
+
+
 def sheet(*items, gap=0):
     """The count, the pairs, the items; gap bytes stand before each item."""
     pairs, body = b"", b""
@@ -176,6 +186,19 @@ SHEETS = {
         stepped(5_000, 3_000, 4, LEFT),
         stepped(5_000, 3_000, 4, RIGHT),
     ),
+    # Kind 11
+    "parapet": sheet(
+        site(650, ce=80, cesl=230, situation=3, altitude=40),
+        parapet(1_100, 24_000, 10_000),
+        parapet(2_400, 9_000, 14_000),
+        parapet(3_200, 40_000, 70_000),
+    ),
+    # Kind 12
+    "chimney": sheet(
+        map_site(8, 2, ct=90, situation=2, altitude=60),
+        small_projection((650, 950), (4_000, 3_200)),
+        small_projection((300, 300), (6_000, 9_000)),
+    ),
     # Refused
     "refused_pairs": sheet(site(1_500), HALL)[:9],
     "refused_cut": sheet(site(1_500), HALL)[:-3],
@@ -203,6 +226,7 @@ SHEETS = {
     "refused_day": sheet(site(1_500, day=9_132), HALL),
     "refused_map_day": sheet(map_site(1, 2, altitude=500, day=9_132), HALL),
     "refused_site_byte": sheet(site(1_500) + b"\x00", HALL),
+    "refused_chimney": sheet(site(650, situation=2), HALL, small_projection((650, 1_001), (4_000, 3_200))),
 }
 
 for name, content in SHEETS.items():

@@ -3,11 +3,12 @@
 use std::ops::Range;
 
 use crate::loads::{self, Fall, Load, Rounded, Shape};
-use crate::sheet::{DriftRoof, LowerRoof, Roof, Site, Situation, Slope, MAX_SLOPES};
+use crate::sheet::{DriftRoof, LowerRoof, Parapet, Roof, Side, Site, Situation, Slope, MAX_SLOPES};
 
 /// Added to a code for the same shape under an exceptional fall.
 const EXCEPTIONAL: u8 = 10;
-/// The code of an exceptional drift is this plus the number of its valley, from 1 at the left.
+/// The code of an exceptional drift is this plus the number of its valley, from 1 at the left. Other
+/// roofs with exceptional drifts have one.
 const DRIFT: u8 = 30;
 /// Quarter millimetres in a millimetre.
 const QUARTERS: i32 = 4;
@@ -61,23 +62,31 @@ pub struct Arrangement<L> {
 impl<L: Load> Arrangement<L> {
     /// The arrangement of a code, where there is one for the roof in the site's situation.
     pub fn of(site: &Site, roof: &Roof, code: u8) -> Option<Self> {
-        Codes::of(site, roof)
-            .contains(code)
-            .then(|| Self::coded(site, roof, code))
-    }
-
-    fn coded(site: &Site, roof: &Roof, code: u8) -> Self {
-        match roof {
-            Roof::Drift(roof) if code > DRIFT => drift(roof, usize::from(code - DRIFT), site),
-            _ if code > EXCEPTIONAL => {
-                Self::shaped(site, roof, code - EXCEPTIONAL, Fall::exceptional(site))
-            }
-            _ => Self::shaped(site, roof, code, Fall::persistent(site)),
+        if !Codes::of(site, roof).contains(code) {
+            return None;
+        }
+        if code > DRIFT {
+            Self::drifted(site, roof, usize::from(code - DRIFT))
+        } else if code > EXCEPTIONAL {
+            Self::shaped(site, roof, code - EXCEPTIONAL, Fall::exceptional(site))
+        } else {
+            Self::shaped(site, roof, code, Fall::persistent(site))
         }
     }
 
-    fn shaped(site: &Site, roof: &Roof, shape: u8, fall: Fall) -> Self {
+    /// An exceptional drift, where the roof has any.
+    fn drifted(site: &Site, roof: &Roof, number: usize) -> Option<Self> {
         match roof {
+            Roof::Drift(roof) => Some(drift(roof, number, site)),
+            Roof::Parapet(roof) => Some(parapet(roof, site)),
+            Roof::SmallProjection(sides) => Some(small_projection(sides, site)),
+            _ => None,
+        }
+    }
+
+    /// A shape under a fall, where the roof has more than its exceptional drift.
+    fn shaped(site: &Site, roof: &Roof, shape: u8, fall: Fall) -> Option<Self> {
+        Some(match roof {
             Roof::Monopitch(slope) => even_slopes(&[*slope], fall),
             Roof::Pitched(slopes) => pitched(slopes, shape, fall),
             Roof::MultiSpan(roof) => spans(roof.slopes(), shape, fall),
@@ -93,7 +102,8 @@ impl<L: Load> Arrangement<L> {
                 let drift = loads::drift_length(*height, loads::PROJECTION_DRIFT);
                 projection(drift, *left, *right, peak, fall)
             }
-        }
+            Roof::Parapet(_) | Roof::SmallProjection(_) => return None,
+        })
     }
 
     /// The roof's end in quarter millimetres.
@@ -174,28 +184,34 @@ fn persistent_codes(situation: Situation, roof: &Roof) -> &'static [u8] {
         Roof::Drift(_) if situation.has_drifts() => &[1],
         Roof::MultiSpan(_) | Roof::Drift(_) | Roof::Cylindrical { .. } | Roof::Lower(_) => &[1, 2],
         Roof::Projection { .. } => &[2],
+        Roof::Parapet(_) | Roof::SmallProjection(_) => &[],
     }
 }
 
 /// All shapes in case B1, the undrifted one in case B3. Drifts at a projection belong to the
-/// persistent situation alone.
+/// persistent situation alone, parapets and small projections to exceptional drifts alone.
 fn fall_codes(situation: Situation, roof: &Roof) -> &'static [u8] {
     match (situation, roof) {
-        (Situation::Normal | Situation::Drifts, _) | (_, Roof::Projection { .. }) => &[],
+        (Situation::Normal | Situation::Drifts, _) => &[],
+        (_, Roof::Projection { .. } | Roof::Parapet(_) | Roof::SmallProjection(_)) => &[],
         (Situation::FallsAndDrifts, _) | (_, Roof::Monopitch(_)) => &[11],
         (Situation::Falls, Roof::Pitched(_)) => &[11, 12, 13],
         (Situation::Falls, _) => &[11, 12],
     }
 }
 
-/// One for each valley.
+/// One for each valley, one for a parapet, and one for both sides of a small projection.
 fn drift_codes(situation: Situation, roof: &Roof) -> Range<u8> {
-    match roof {
-        Roof::Drift(roof) if situation.has_drifts() => {
-            let first = DRIFT + 1;
-            first..first + roof.valleys().len() as u8
-        }
-        _ => 0..0,
+    let drifts = match roof {
+        Roof::Drift(roof) => roof.valleys().len() as u8,
+        Roof::Parapet(_) | Roof::SmallProjection(_) => 1,
+        _ => 0,
+    };
+    let first = DRIFT + 1;
+    if situation.has_drifts() {
+        first..first + drifts
+    } else {
+        first..first
     }
 }
 
@@ -349,5 +365,30 @@ fn projection<L: Load>(drift: u32, left: u32, right: u32, peak: L, fall: Fall) -
     made.ramp(foot - drift, foot, even, peak);
     made.ramp(foot, foot + drift, peak, even);
     made.even(foot + drift, made.end, even);
+    made
+}
+
+/// A drift behind the parapet, at the roof's left end, and no snow elsewhere (B4).
+fn parapet<L: Load>(roof: &Parapet, site: &Site) -> Arrangement<L> {
+    let mut made = Arrangement::over(roof.width);
+    let peak = Fall::drift(site).load(loads::mu_parapet(roof, site));
+    let drift = quarters(loads::parapet_drift(roof));
+    let none = L::default();
+    made.ramp(0, drift, peak, none);
+    made.even(drift, made.end, none);
+    made
+}
+
+/// A drift on both sides of a small projection, each with its own peak, and no snow elsewhere (B4).
+fn small_projection<L: Load>(sides: &[Side; 2], site: &Site) -> Arrangement<L> {
+    let mut made = Arrangement::over(sides[0].width + sides[1].width);
+    let foot = quarters(sides[0].width);
+    let [left, right] = sides.map(|side| quarters(loads::side_drift(&side)));
+    let peaks = sides.map(|side| Fall::drift(site).load(loads::mu_side(&side, site)));
+    let none = L::default();
+    made.even(0, foot - left, none);
+    made.ramp(foot - left, foot, none, peaks[0]);
+    made.ramp(foot, foot + right, peaks[1], none);
+    made.even(foot + right, made.end, none);
     made
 }

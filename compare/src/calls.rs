@@ -251,7 +251,7 @@ mod tests {
         // Not of its length, as an item of kind 1, and behind another site.
         assert_eq!(verdict(&EMPTY, &changed(&[(4, 11)])), 0x8004_0000);
         assert_eq!(verdict(&EMPTY, &changed(&[(6, 1)])), 0x8004_0000);
-        for (kind, number) in [(0, 3), (8, 5), (10, 4), (11, 3), (255, 3)] {
+        for (kind, number) in [(0, 3), (8, 5), (10, 4), (11, 4), (12, 4), (13, 3), (255, 3)] {
             let mut sheet = vec![2, 0, 10, 0, 12, 0, 22, 0, 12, 0];
             sheet.extend(&MAP_SHEET[6..]);
             sheet.extend(&MAP_SHEET[6..]);

@@ -9,10 +9,10 @@ use crate::calls;
 use crate::listing;
 use crate::store::EMPTY;
 
-const DEFAULT: &str = concat!(env!("CARGO_MANIFEST_DIR"), "/../crates/trials/data/A8.bin");
+const DEFAULT: &str = concat!(env!("CARGO_MANIFEST_DIR"), "/../crates/trials/data/A9.bin");
 const SAMPLES: &str = concat!(env!("CARGO_MANIFEST_DIR"), "/../samples");
 /// Records of the corpus.
-const RECORDS: usize = 326;
+const RECORDS: usize = 341;
 
 /// A sheet and the listing that it has to give.
 struct Record<'a> {

@@ -27,7 +27,7 @@ pub fn sheet(random: &mut Random, mut items: Vec<Vec<u8>>) -> Vec<u8> {
 }
 
 fn harm_items(random: &mut Random, items: &mut Vec<Vec<u8>>, place: usize) {
-    match random.below(17) {
+    match random.below(18) {
         0..=2 => outside(random, &mut items[place]),
         3 => change_kind(random, &mut items[place]),
         4 => change_length(random, &mut items[place]),
@@ -44,6 +44,7 @@ fn harm_items(random: &mut Random, items: &mut Vec<Vec<u8>>, place: usize) {
         12 => bad_situation(random, &mut items[0]),
         13 | 14 => items.push(bad_upper(random, items.len())),
         15 => circle(random, items),
+        16 => items.push(bad_height(random)),
         _ => items.push(bad_arch(random)),
     }
 }
@@ -62,12 +63,12 @@ fn outside(random: &mut Random, item: &mut [u8]) {
 
 fn change_kind(random: &mut Random, item: &mut [u8]) {
     if let Some(kind) = item.first_mut() {
-        *kind = random.pick(&[0, 1, 2, 3, 4, 5, 6, 7, 8, 9, 10, 11, 128, 255]);
+        *kind = random.pick(&[0, 1, 2, 3, 4, 5, 6, 7, 8, 9, 10, 11, 12, 13, 128, 255]);
     }
 }
 
 fn change_length(random: &mut Random, item: &mut Vec<u8>) {
-    match random.below(11) {
+    match random.below(13) {
         0 => item.clear(),
         1 => item.truncate(1),
         2 => item.truncate(item.len().saturating_sub(1)),
@@ -76,10 +77,13 @@ fn change_length(random: &mut Random, item: &mut Vec<u8>) {
         4 => item.resize(12, 0),
         5 => item.resize(14, 0),
         6 => item.resize(16, 0),
+        // The lengths of a parapet and of a small projection.
+        7 => item.resize(13, 1),
+        8 => item.resize(17, 1),
         // A day more, a span more, a valley more, or the last two.
-        7 => draft::noise(random, item, 2),
-        8 => draft::noise(random, item, 12),
-        9 => draft::noise(random, item, 8),
+        9 => draft::noise(random, item, 2),
+        10 => draft::noise(random, item, 12),
+        11 => draft::noise(random, item, 8),
         _ => draft::noise(random, item, 20),
     }
 }
@@ -203,6 +207,20 @@ fn bad_drift(random: &mut Random) -> Vec<u8> {
     draft::put(&mut item, field, value);
     if random.once_in(3) {
         steepen(random, &mut item);
+    }
+    item
+}
+
+/// A parapet or a small projection with a height outside its range, sometimes with another field
+/// outside as well. 30,000 is sound for a parapet.
+fn bad_height(random: &mut Random) -> Vec<u8> {
+    let kind = random.pick(&[draft::PARAPET, draft::SMALL_PROJECTION]);
+    let mut item = draft::item(random, kind);
+    let [height, _] = random.pick(draft::steps_and_widths(kind));
+    let value = random.pick(&[0, height.high + 1, 30_000, 1 << 17, 1 << 31, u32::MAX]);
+    draft::put(&mut item, height, value);
+    if random.once_in(6) {
+        outside(random, &mut item);
     }
     item
 }

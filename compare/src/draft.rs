@@ -15,8 +15,10 @@ pub const PROJECTION: u8 = 7;
 pub const MAP_SITE: u8 = 8;
 pub const DRIFT_ROOF: u8 = 9;
 pub const STEPPED: u8 = 10;
+pub const PARAPET: u8 = 11;
+pub const SMALL_PROJECTION: u8 = 12;
 /// The kinds of roofs that need no other item, in their order.
-pub const ROOFS: [u8; 7] = [
+pub const ROOFS: [u8; 9] = [
     MONOPITCH,
     PITCHED,
     MULTI_SPAN,
@@ -24,6 +26,8 @@ pub const ROOFS: [u8; 7] = [
     LOWER,
     PROJECTION,
     DRIFT_ROOF,
+    PARAPET,
+    SMALL_PROJECTION,
 ];
 /// The kinds of items that a stepped roof may stand under.
 pub const UPPERS: [u8; 3] = [MONOPITCH, PITCHED, STEPPED];
@@ -94,6 +98,16 @@ const fn depth(at: usize) -> Field {
     field(at, 4, 1, 30_000, &[250, 1_875, 2_499, 2_500, 2_501])
 }
 
+/// The height of a parapet. The edges are where 5h is 15,000, and 4 × sk for usual ground loads.
+const fn parapet_height(at: usize) -> Field {
+    field(at, 4, 1, 30_000, &[400, 2_999, 3_000, 3_001, 4_000, 6_000])
+}
+
+/// The height of a small projection. The edges are 5 × sk/2 for light ground loads.
+const fn small_height(at: usize) -> Field {
+    field(at, 4, 1, 1_000, &[249, 250, 251, 500])
+}
+
 const SITE_FIELDS: [Field; 6] = [
     field(1, 4, 100, 25_000, &[1_000, 1_001, 1_500, 750]),
     field(5, 2, 80, 120, &[100]),
@@ -134,6 +148,10 @@ const STEPPED_FIELDS: [Field; 4] = [
     guard(10),
 ];
 
+pub const PARAPET_FIELDS: [Field; 3] = [parapet_height(1), width(5), width(9)];
+pub const SMALL_PROJECTION_FIELDS: [Field; 4] =
+    [small_height(1), small_height(5), width(9), width(13)];
+
 /// The fields of an item, for a multi-span roof those of its spans.
 pub fn fields(item: &[u8]) -> Vec<Field> {
     match item.first() {
@@ -147,6 +165,8 @@ pub fn fields(item: &[u8]) -> Vec<Field> {
         Some(&PROJECTION) => PROJECTION_FIELDS.to_vec(),
         Some(&MAP_SITE) => MAP_SITE_FIELDS.to_vec(),
         Some(&STEPPED) => STEPPED_FIELDS.to_vec(),
+        Some(&PARAPET) => PARAPET_FIELDS.to_vec(),
+        Some(&SMALL_PROJECTION) => SMALL_PROJECTION_FIELDS.to_vec(),
         _ => Vec::new(),
     }
 }
@@ -210,7 +230,7 @@ pub fn item(random: &mut Random, kind: u8) -> Vec<u8> {
             spans(random, kind, count)
         }
         CYLINDRICAL => cylindrical(random),
-        LOWER | PROJECTION | STEPPED => at_step(random, kind),
+        LOWER | PROJECTION | STEPPED | PARAPET | SMALL_PROJECTION => at_step(random, kind),
         _ => filled(random, blank(kind)),
     }
 }
@@ -224,6 +244,7 @@ fn blank(kind: u8) -> Vec<u8> {
         LOWER => 20,
         MAP_SITE => 12,
         STEPPED => 11,
+        SMALL_PROJECTION => 17,
         _ => 13,
     };
     let mut item = vec![0; length];
@@ -487,28 +508,40 @@ fn cylindrical(random: &mut Random) -> Vec<u8> {
     item
 }
 
-/// A width close to the drift's length, at a step.
-fn near_drift(random: &mut Random, step: u32) -> u32 {
-    (2 * step).clamp(5_000, 15_000) + random.between(0, 2) - 1
+/// A width close to the length of the drift at a step of a kind of roof.
+fn near_drift(random: &mut Random, kind: u8, step: u32) -> u32 {
+    let length = match kind {
+        PARAPET => (5 * step).min(15_000),
+        SMALL_PROJECTION => 5 * step,
+        _ => (2 * step).clamp(5_000, 15_000),
+    };
+    length + random.between(0, 2) - 1
 }
 
-/// The step of a roof of kind 6, 7 or 10, and the widths with a drift at it.
-fn step_and_widths(kind: u8) -> (Field, &'static [Field]) {
+/// The widths of a roof of kind 6, 7, 10, 11 or 12 with a drift, each behind the step that it is at.
+pub fn steps_and_widths(kind: u8) -> &'static [[Field; 2]] {
     match kind {
-        LOWER => (LOWER_FIELDS[2], &LOWER_FIELDS[1..2]),
-        STEPPED => (STEPPED_FIELDS[1], &STEPPED_FIELDS[..1]),
-        _ => (PROJECTION_FIELDS[0], &PROJECTION_FIELDS[1..]),
+        LOWER => &[[LOWER_FIELDS[2], LOWER_FIELDS[1]]],
+        STEPPED => &[[STEPPED_FIELDS[1], STEPPED_FIELDS[0]]],
+        PARAPET => &[[PARAPET_FIELDS[0], PARAPET_FIELDS[1]]],
+        SMALL_PROJECTION => &[
+            [SMALL_PROJECTION_FIELDS[0], SMALL_PROJECTION_FIELDS[2]],
+            [SMALL_PROJECTION_FIELDS[1], SMALL_PROJECTION_FIELDS[3]],
+        ],
+        _ => &[
+            [PROJECTION_FIELDS[0], PROJECTION_FIELDS[1]],
+            [PROJECTION_FIELDS[0], PROJECTION_FIELDS[2]],
+        ],
     }
 }
 
-/// A roof of such a kind, a third of the widths close to the drift's length.
+/// A roof of such a kind, a third of these widths close to the drift's length.
 fn at_step(random: &mut Random, kind: u8) -> Vec<u8> {
     let mut item = filled(random, blank(kind));
-    let (step, widths) = step_and_widths(kind);
-    for field in widths {
+    for [step, width] in steps_and_widths(kind) {
         if random.once_in(3) {
-            let width = near_drift(random, get(&item, step));
-            put(&mut item, *field, width);
+            let near = near_drift(random, kind, get(&item, *step));
+            put(&mut item, *width, near);
         }
     }
     item
@@ -588,11 +621,10 @@ pub fn cut(random: &mut Random, kind: u8) -> Vec<u8> {
         let field = LOWER_FIELDS[4];
         put(&mut item, field, random.between(SLIDES_FROM, 599));
     }
-    let (step, widths) = step_and_widths(kind);
-    let longest = near_drift(random, get(&item, step));
-    for field in widths {
+    for [step, width] in steps_and_widths(kind) {
+        let longest = near_drift(random, kind, get(&item, *step));
         let high = random.between(1, longest);
-        put(&mut item, *field, random.between(1, high));
+        put(&mut item, *width, random.between(1, high));
     }
     item
 }
@@ -628,16 +660,16 @@ fn limit_drift(
     ground_load: u32,
 ) {
     let [_, _, low, high, short, long] = *set;
-    let (step, widths) = step_and_widths(item[0]);
+    let [step, width] = steps_and_widths(item[0])[0];
     let by_snow = [low, high].map(|limit| limit * ground_load / 200);
     let steps = [short / 2, long / 2, by_snow[0], by_snow[1], get(item, step)];
     let height = beside(random, &steps).clamp(step.low, step.high);
     put(item, step, height);
     let by_width = [low, high].map(|limit| (2 * height * limit / 100).saturating_sub(upper_width));
     let drift = (2 * height).clamp(short, long);
-    let choices = [drift, by_width[0], by_width[1], get(item, widths[0])];
-    let width = beside(random, &choices).clamp(widths[0].low, widths[0].high);
-    put(item, widths[0], width);
+    let choices = [drift, by_width[0], by_width[1], get(item, width)];
+    let near = beside(random, &choices).clamp(width.low, width.high);
+    put(item, width, near);
 }
 
 /// One of some values, or the one before or behind it.
@@ -645,9 +677,9 @@ fn beside(random: &mut Random, values: &[u32]) -> u32 {
     (random.pick(values) + random.between(0, 2)).saturating_sub(1)
 }
 
-/// A roof of any kind, twice as often one with drifts.
+/// A roof of any kind, twice as often one of kind 9.
 pub fn roof(random: &mut Random) -> Vec<u8> {
-    let kind = *ROOFS.get(random.below(8)).unwrap_or(&DRIFT_ROOF);
+    let kind = *ROOFS.get(random.below(10)).unwrap_or(&DRIFT_ROOF);
     item(random, kind)
 }
 

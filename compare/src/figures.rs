@@ -81,6 +81,16 @@ fn drift_roof(widths: &[[u32; 2]], valleys: &[[u32; 2]]) -> Roof {
     roof(&drift_bytes(widths, valleys)).unwrap()
 }
 
+/// h, b1 and b2.
+fn parapet(figures: [u32; 3]) -> Roof {
+    roof(&words(11, &figures)).unwrap()
+}
+
+/// h1 and h2, b1 and b2.
+fn small_projection(figures: [u32; 4]) -> Roof {
+    roof(&words(12, &figures)).unwrap()
+}
+
 fn in_situation(situation: Situation) -> Site {
     Site { situation, ..SITE }
 }
@@ -210,8 +220,234 @@ fn drifts_have_the_ground_load_alone() {
     assert_ne!(segments(&other, &roof, 1), segments(&site, &roof, 1));
 }
 
+/// With a ground load of 1,000 the limits are 2h, 2,000 × b/ls and 8,000.
+#[test]
+fn parapet_loads() {
+    let site = in_situation(Situation::Drifts);
+    let peak = |figures| segments(&site, &parapet(figures), 31)[0][2];
+    // ls is 2,500 and the widths give 16,000; ls is 15,000 and they give 8,000.
+    assert_eq!(peak([500, 20_000, 1]), 1_000);
+    assert_eq!(
+        [3_999, 4_000, 4_001, 30_000].map(|h| peak([h, 20_000, 60_000])),
+        [7_998, 8_000, 8_000, 8_000]
+    );
+    // 7,999.9, 7,998.9 and 8,000.1 by b2.
+    assert_eq!(
+        [59_999, 59_992, 60_001].map(|b2| peak([4_001, 20_000, b2])),
+        [8_000, 7_999, 8_000]
+    );
+    // 2,666.7 by b1, 6,000 and 6,000.1 by b2.
+    assert_eq!(
+        [1, 20_000, 45_000, 45_001].map(|b2| peak([6_000, 20_000, b2])),
+        [2_667, 2_667, 6_000, 6_001]
+    );
+    // Where the roof is all drift, b1 gives 2,000.
+    assert_eq!(
+        [999, 1_000, 1_001].map(|h| peak([h, 4_000, 3_000])),
+        [1_998, 2_000, 2_000]
+    );
+    assert_eq!(peak([1, 1, 1]), 2);
+    assert_eq!(peak([30_000, 100_000, 100_000]), 8_000);
+    assert_eq!(peak([30_000, 1, 3]), 6_000);
+}
+
+/// Heights, b1 and the ends of the segments: the drift's, and the roof's where it goes on.
+#[test]
+fn parapet_lengths() {
+    let site = in_situation(Situation::FallsAndDrifts);
+    let ends = |height, width| {
+        let made = segments(&site, &parapet([height, width, 50_000]), 31);
+        assert_eq!((made[0][0], made[0][3]), (0, 0));
+        if let Some(rest) = made.get(1) {
+            assert_eq!((rest[0], &rest[2..]), (made[0][1], &[0, 0][..]));
+        }
+        made.iter().map(|part| part[1]).collect::<Vec<_>>()
+    };
+    assert_eq!(ends(2_000, 9_999), [39_996]);
+    assert_eq!(ends(2_000, 10_000), [40_000]);
+    assert_eq!(ends(2_000, 10_001), [40_000, 40_004]);
+    assert_eq!(ends(2_999, 15_000), [59_980, 60_000]);
+    assert_eq!(ends(3_000, 15_000), [60_000]);
+    assert_eq!(ends(3_001, 15_000), [60_000]);
+    assert_eq!(ends(2_999, 15_001), [59_980, 60_004]);
+    assert_eq!(ends(3_000, 15_001), [60_000, 60_004]);
+    assert_eq!(ends(30_000, 14_999), [59_996]);
+    assert_eq!(ends(30_000, 100_000), [60_000, 400_000]);
+    assert_eq!(ends(1, 100_000), [20, 400_000]);
+    assert_eq!(ends(1, 1), [4]);
+}
+
+/// From 2,666.7 in tenths to 0 at 60,000. At a quarter of the way the exact load is 2,000.
+#[test]
+fn parapet_readings() {
+    let site = in_situation(Situation::Drifts);
+    let roof = parapet([6_000, 20_000, 12_000]);
+    let made = Arrangement::<Tenths>::of(&site, &roof, 31).unwrap();
+    let stations = [0, 1, 15_000, 20_000, 30_000, 59_999, 60_000, 60_001, 80_000];
+    let loads = [2_667, 2_667, 2_001, 1_778, 1_334, 1, 0, 0, 0];
+    assert_eq!(
+        stations.map(|station| made.reading(station)),
+        loads.map(Some)
+    );
+    assert_eq!(made.reading(80_001), None);
+    let at = |roof, station| three_ways(&site, roof, 31, station);
+    assert_eq!(at(&roof, 0), (2_667, 2_667, 333_333));
+    assert_eq!(at(&roof, 15_000), (2_001, 2_001, 1_000_000));
+    // 6,000.2 in tenths and 6,001 in whole N/m².
+    let wider = parapet([6_000, 20_000, 45_001]);
+    assert_eq!(at(&wider, 2), (6_000, 6_001, 66_671));
+}
+
+/// With a ground load of 300 the limits are 2h and 1,500.
+#[test]
+fn small_projection_loads() {
+    let site = |ground_load| Site {
+        situation: Situation::Drifts,
+        ..snow(ground_load)
+    };
+    let peaks = |ground_load, left, right| {
+        let roof = small_projection([left, right, 100_000, 100_000]);
+        let made = segments(&site(ground_load), &roof, 31);
+        (made[1][3], made[2][2])
+    };
+    assert_eq!(peaks(300, 749, 751), (1_498, 1_500));
+    assert_eq!(peaks(300, 1_000, 750), (1_500, 1_500));
+    assert_eq!(peaks(300, 1, 1_000), (2, 1_500));
+    assert_eq!(peaks(101, 252, 253), (504, 505));
+    assert_eq!(peaks(400, 1_000, 999), (2_000, 1_998));
+    assert_eq!(peaks(399, 1_000, 998), (1_995, 1_995));
+    assert_eq!(peaks(25_000, 1_000, 1), (2_000, 2));
+}
+
+/// 800 over 2,000 on one side; 1,500, less than 2h, over 2,500, less than 5h, on the other.
+#[test]
+fn small_projection_sides() {
+    let site = Site {
+        situation: Situation::FallsAndDrifts,
+        ..snow(300)
+    };
+    let right = [
+        [0, 4_000, 0, 0],
+        [4_000, 12_000, 0, 800],
+        [12_000, 22_000, 1_500, 0],
+    ];
+    let roof = small_projection([400, 900, 3_000, 2_500]);
+    assert_eq!(segments(&site, &roof, 31), right);
+    let made = Arrangement::<Tenths>::of(&site, &roof, 31).unwrap();
+    // The greater of the two at the projection.
+    let stations = [
+        0, 4_000, 4_001, 8_000, 11_999, 12_000, 12_001, 17_000, 21_999, 22_000,
+    ];
+    let loads = [0, 0, 1, 400, 800, 1_500, 1_500, 750, 1, 0];
+    assert_eq!(
+        stations.map(|station| made.reading(station)),
+        loads.map(Some)
+    );
+    assert_eq!(made.reading(22_001), None);
+    let left = [
+        [0, 10_000, 0, 1_500],
+        [10_000, 18_000, 800, 0],
+        [18_000, 22_000, 0, 0],
+    ];
+    let roof = small_projection([900, 400, 2_500, 3_000]);
+    assert_eq!(segments(&site, &roof, 31), left);
+    assert_eq!(three_ways(&site, &roof, 31, 10_000), (1_500, 1_500, 0));
+}
+
+/// The ends of the segments, with 5h of 1,000 on both sides, then at the ends of the ranges.
+#[test]
+fn small_projection_lengths() {
+    let site = in_situation(Situation::Drifts);
+    let ends = |figures| {
+        let made = segments(&site, &small_projection(figures), 31);
+        made.iter().map(|part| part[1]).collect::<Vec<_>>()
+    };
+    let near = |left, right| ends([200, 200, left, right]);
+    assert_eq!(near(999, 1_000), [3_996, 7_996]);
+    assert_eq!(near(1_000, 1_001), [4_000, 8_000, 8_004]);
+    assert_eq!(near(1_001, 999), [4, 4_004, 8_000]);
+    assert_eq!(near(1_001, 1_001), [4, 4_004, 8_004, 8_008]);
+    assert_eq!(ends([1, 1, 1, 1]), [4, 8]);
+    assert_eq!(
+        ends([1_000, 1, 100_000, 100_000]),
+        [380_000, 400_000, 400_020, 800_000]
+    );
+}
+
+/// Ce, Ct, Cesl, the altitude and the set in use leave these drifts as they are, and there are no
+/// local forces.
+#[test]
+fn parapets_have_the_ground_load_alone() {
+    let site = in_situation(Situation::FallsAndDrifts);
+    let other = Site {
+        exposure: 80,
+        thermal: 50,
+        exceptional: 300,
+        altitude: 1_500,
+        situation: Situation::Drifts,
+        ..with_set(1, [1, 1], [1_000, 1_000])
+    };
+    for roof in [
+        parapet([6_000, 20_000, 12_000]),
+        small_projection([400, 900, 3_000, 2_500]),
+    ] {
+        assert_eq!(segments(&other, &roof, 31), segments(&site, &roof, 31));
+        for slope in [1, 2] {
+            assert_eq!(forces::overhang(&other, &roof, slope), None);
+            assert_eq!(forces::guard_force(&other, &roof, slope), None);
+        }
+    }
+}
+
+#[test]
+fn parapet_fields() {
+    let refusals = |kind, figures: &[&[u32]]| -> Vec<_> {
+        let refusal = |figures: &&[u32]| roof(&words(kind, figures)).err();
+        figures.iter().map(refusal).collect()
+    };
+    let sound: [&[u32]; 2] = [&[1, 1, 1], &[30_000, 100_000, 100_000]];
+    assert_eq!(refusals(11, &sound), [None; 2]);
+    let outside: [&[u32]; 6] = [
+        &[0, 1, 1],
+        &[30_001, 1, 1],
+        &[1, 0, 1],
+        &[1, 100_001, 1],
+        &[1, 1, 0],
+        &[1, 1, 100_001],
+    ];
+    assert_eq!(refusals(11, &outside), [Some(8); 6]);
+    let sound: [&[u32]; 2] = [&[1, 1, 1, 1], &[1_000, 1_000, 100_000, 100_000]];
+    assert_eq!(refusals(12, &sound), [None; 2]);
+    let outside: [&[u32]; 9] = [
+        &[0, 1, 1, 1],
+        &[1_001, 1, 1, 1],
+        &[1, 0, 1, 1],
+        &[1, 1_001, 1, 1],
+        &[1, 30_000, 1, 1],
+        &[1, 1, 0, 1],
+        &[1, 1, 100_001, 1],
+        &[1, 1, 1, 0],
+        &[1, 1, 1, 100_001],
+    ];
+    assert_eq!(refusals(12, &outside), [Some(8); 9]);
+}
+
+/// Every length but 13 and 17 is refused by 4, also where a field is outside its range.
+#[test]
+fn parapet_item_lengths() {
+    for (kind, right) in [(11, 13), (12, 17)] {
+        for length in (1..40).filter(|&length| length != right) {
+            for byte in [0, 1, 255] {
+                let mut bytes = vec![byte; length];
+                bytes[0] = kind;
+                assert_eq!(roof(&bytes).err(), Some(4), "kind {kind} length {length}");
+            }
+        }
+    }
+}
+
 /// A roof of each kind and its codes in situations 0 to 3, as document 02 gives them.
-fn code_table() -> [(Roof, [&'static [u8]; 4]); 7] {
+fn code_table() -> [(Roof, [&'static [u8]; 4]); 9] {
     let slope = Slope::default();
     let arch = roof(&words(5, &[1_000, 4_000])).unwrap();
     let projection = roof(&words(7, &[1_000, 4_000, 4_000])).unwrap();
@@ -231,6 +467,7 @@ fn code_table() -> [(Roof, [&'static [u8]; 4]); 7] {
         &[1, 31, 32, 33],
         &[1, 11, 31, 32, 33],
     ];
+    let exceptional: [&[u8]; 4] = [&[], &[], &[31], &[31]];
     [
         (Roof::Monopitch(slope), one),
         (Roof::Pitched([slope; 2]), three),
@@ -239,6 +476,8 @@ fn code_table() -> [(Roof, [&'static [u8]; 4]); 7] {
         (low, two),
         (projection, [&[2]; 4]),
         (drifts, valleys),
+        (parapet([1_000, 4_000, 4_000]), exceptional),
+        (small_projection([500, 500, 4_000, 4_000]), exceptional),
     ]
 }
 
@@ -512,10 +751,10 @@ fn jobs_by_their_days() {
 }
 
 /// The loads of an item in tenths, in whole N/m², and how far the first lies above the exact rule.
-fn three_ways(site: &Site, roof: &Roof, station: u32) -> (u32, u32, u64) {
-    let tenths = Arrangement::<Tenths>::of(site, roof, 2).unwrap();
-    let whole = Arrangement::<Whole>::of(site, roof, 2).unwrap();
-    let exact = Arrangement::<Exact>::of(site, roof, 2).unwrap();
+fn three_ways(site: &Site, roof: &Roof, code: u8, station: u32) -> (u32, u32, u64) {
+    let tenths = Arrangement::<Tenths>::of(site, roof, code).unwrap();
+    let whole = Arrangement::<Whole>::of(site, roof, code).unwrap();
+    let exact = Arrangement::<Exact>::of(site, roof, code).unwrap();
     let load = tenths.reading(station).unwrap();
     let distance = exact.distance(station, load).unwrap();
     (load, whole.reading(station).unwrap(), distance)
@@ -527,7 +766,7 @@ fn three_ways(site: &Site, roof: &Roof, station: u32) -> (u32, u32, u64) {
 fn two_lower() {
     let site = snow(688);
     let roof = lower([7_136, 20_000, 6_003, 6_261], 200);
-    let figures = [0, 8, 24_000, 48_024].map(|station| three_ways(&site, &roof, station));
+    let figures = [0, 8, 24_000, 48_024].map(|station| three_ways(&site, &roof, 2, station));
     assert_eq!(
         figures,
         [
@@ -551,7 +790,7 @@ fn two_lower() {
 #[test]
 fn parts_are_rounded_before_they_are_added() {
     let roof = lower([10_000, 10_000, 3_000, 5_000], 200);
-    assert_eq!(three_ways(&SITE, &roof, 0), (4_001, 4_001, 1_000_000));
+    assert_eq!(three_ways(&SITE, &roof, 2, 0), (4_001, 4_001, 1_000_000));
 }
 
 /// From 800.8 at the ridge to 1,201.2 in the valley. Both are whole tenths.
@@ -566,7 +805,7 @@ fn a_ramp_in_tenths() {
         bytes.extend(widths.into_iter().flat_map(u32::to_le_bytes));
     }
     let roof = roof(&bytes).unwrap();
-    let loads = |station| three_ways(&snow(1_001), &roof, station);
+    let loads = |station| three_ways(&snow(1_001), &roof, 2, station);
     assert_eq!(loads(16_000), (801, 801, 200_000));
     assert_eq!(loads(16_001), (801, 802, 179_980));
     assert_eq!(loads(36_000), (1_202, 1_202, 800_000));

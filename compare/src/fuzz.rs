@@ -205,8 +205,8 @@ impl Fuzz {
         let code = self.random.byte();
         self.checker.make(asked, item, code, 128);
         // The codes that exist are met again with slices around the right length.
-        let valleys: [u8; 3] = std::array::from_fn(|_| 31 + self.random.below(15) as u8);
-        for code in [1, 2, 3, 11, 12, 13].into_iter().chain(valleys) {
+        let valleys: [u8; 3] = std::array::from_fn(|_| 32 + self.random.below(14) as u8);
+        for code in [1, 2, 3, 11, 12, 13, 31].into_iter().chain(valleys) {
             self.arrangement_questions(asked, item, code);
         }
     }

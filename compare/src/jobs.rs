@@ -7,6 +7,7 @@ use crate::check::{Asked, Lent};
 use crate::draft;
 use crate::fuzz::Fuzz;
 use crate::stores::{self, Set, FIGURES, LAST_DAY};
+use crate::tally::Rising;
 
 /// The two kinds of sites.
 pub const SITES: [u8; 2] = [draft::SITE, draft::MAP_SITE];
@@ -174,8 +175,10 @@ impl Fuzz {
                 let day = self.random.pick(&days);
                 items[0] = day.map_or(site.clone(), |day| draft::dated(&site, day));
                 let sheet = draft::sheet(&mut self.random, &items);
-                let loads = self.loads(&sheet);
-                self.no_load_falls(&sheet, &lighter, &loads);
+                let asked = self.checker.verdict(&sheet);
+                let loads = self.loads(asked, &CODES);
+                let rising = self.no_load_falls(&sheet, &lighter, &loads);
+                self.checker.tally.sets.rising += rising;
                 lighter = loads;
             }
         }
@@ -201,13 +204,12 @@ impl Fuzz {
         values.into_iter().map(with).collect()
     }
 
-    /// The loads at the breaks of all arrangements of a job, beside them and between them. Where the
-    /// breaks are doesn't depend on the snow.
-    fn loads(&mut self, sheet: &[u8]) -> Vec<u32> {
-        let asked = self.checker.verdict(sheet);
+    /// The loads at the breaks of a sheet's arrangements of some codes, beside them and between them.
+    /// Where the breaks are doesn't depend on the snow.
+    pub fn loads(&mut self, asked: Asked, codes: &[u8]) -> Vec<u32> {
         let mut loads = Vec::new();
-        for item in 1..ITEMS {
-            for code in CODES {
+        for item in 1..asked.count {
+            for &code in codes {
                 let numbers = self.checker.make(asked, item, code, 128);
                 for segment in numbers.chunks_exact(4) {
                     let (start, end) = (segment[0], segment[1]);
@@ -220,17 +222,17 @@ impl Fuzz {
         loads
     }
 
-    /// Holds the loads of a job to those under the snow before, of which the first has none.
-    fn no_load_falls(&mut self, sheet: &[u8], lighter: &[u32], heavier: &[u32]) {
+    /// Holds the loads of a sheet to those under the snow before, of which the first has none.
+    pub fn no_load_falls(&mut self, sheet: &[u8], lighter: &[u32], heavier: &[u32]) -> Rising {
+        let mut rising = Rising::default();
         for (place, (light, heavy)) in lighter.iter().zip(heavier).enumerate() {
-            let tally = &mut self.checker.tally.sets;
-            tally.heavier += 1;
-            tally.level += u64::from(light == heavy);
+            rising.count(light == heavy);
             if light > heavy || *heavy >= REFUSED {
                 let describe = || format!("load {place} under heavier snow: {light}, then {heavy}");
                 self.checker.disagree(sheet, describe);
             }
         }
+        rising
     }
 
     /// Every number of 16 bits for the job day. A half circle shows the upper value of each set.

@@ -2,7 +2,7 @@
 
 use std::ops::Add;
 
-use crate::sheet::{LowerRoof, Site, Slope, Valley, SLIDING_PITCH};
+use crate::sheet::{LowerRoof, Parapet, Side, Site, Slope, Valley, SLIDING_PITCH};
 use crate::store::{Limits, National};
 
 /// Denominator of the coefficients of Table 5.2 when the pitch is in tenths of a degree.
@@ -15,6 +15,8 @@ const MILLION: u64 = 1_000_000;
 const SLIDE_FROM: u16 = 150;
 /// Drift lengths at a projection in mm, whatever set is in use.
 pub const PROJECTION_DRIFT: Limits = Limits::new(5_000, 15_000);
+/// The longest drift behind a parapet in mm.
+const PARAPET_DRIFT: u32 = 15_000;
 
 /// A shape coefficient μ.
 #[derive(Clone, Copy, Debug)]
@@ -131,6 +133,29 @@ pub fn mu_drift(valley: Valley, left: Slope, right: Slope, site: &Site) -> Shape
     mu_full_step(valley.depth, site)
         .at_most(Shape::new(2 * u64::from(valley.length), widths))
         .at_most(Shape::new(5, 1))
+}
+
+/// Length of the drift behind a parapet in mm (B4): the least of 5h, b1 and 15 m.
+pub fn parapet_drift(roof: &Parapet) -> u32 {
+    (5 * roof.height).min(roof.width).min(PARAPET_DRIFT)
+}
+
+/// μ1 behind a parapet (B4): the least of 2h/sk, 2 × b/ls and 8, where b is the larger width.
+pub fn mu_parapet(roof: &Parapet, site: &Site) -> Shape {
+    let larger = u64::from(roof.width.max(roof.other_width));
+    mu_full_step(roof.height, site)
+        .at_most(Shape::new(2 * larger, parapet_drift(roof).into()))
+        .at_most(Shape::new(8, 1))
+}
+
+/// Length of the drift at a side of a small projection in mm (B4): the lesser of 5h and the width.
+pub fn side_drift(side: &Side) -> u32 {
+    (5 * side.height).min(side.width)
+}
+
+/// μ at a side of a small projection (B4): the lesser of 2h/sk and 5.
+pub fn mu_side(side: &Side, site: &Site) -> Shape {
+    mu_full_step(side.height, site).at_most(Shape::new(5, 1))
 }
 
 /// All that a load has beside μ, as a fraction. The scale is a multiple of ten that divides a

@@ -10,12 +10,14 @@ mod desk;
 mod draft;
 mod drifts;
 mod eaves;
+#[cfg(not(test))]
 mod ffi;
 mod fuzz;
 mod halls;
 mod jobs;
 mod measure;
 mod pairs;
+mod parapets;
 mod random;
 mod sets;
 mod stores;
@@ -27,11 +29,14 @@ use std::process::ExitCode;
 use std::time::Instant;
 
 use fuzz::Fuzz;
+/// In tests the second calculation takes the library's place.
+#[cfg(test)]
+use second::calls as ffi;
 
 const SEED: u64 = 20_031_991;
 const SHEETS: u64 = 48_000;
 /// Each with a sound store. Those up to request A7 have no dated sites, so it changes no answer.
-const SWEEPS: [fn(&mut Fuzz); 12] = [
+const SWEEPS: [fn(&mut Fuzz); 13] = [
     Fuzz::sweep,
     Fuzz::sweep_map,
     Fuzz::sweep_codes,
@@ -44,6 +49,7 @@ const SWEEPS: [fn(&mut Fuzz); 12] = [
     Fuzz::sweep_halls,
     Fuzz::sweep_jobs,
     Fuzz::sweep_sets,
+    Fuzz::sweep_parapets,
 ];
 /// A run of the usual size is to reach this.
 const LEAST: u64 = 1_000_000;

@@ -7,7 +7,7 @@ use second::calls::{self, LIST_ROOM};
 use second::listing;
 use second::store::EMPTY;
 
-use crate::draft::{self, DRIFT_ROOF, MULTI_SPAN};
+use crate::draft::{self, DRIFT_ROOF, MULTI_SPAN, PARAPET, SMALL_PROJECTION};
 use crate::ffi;
 use crate::fuzz::heavy_sheet;
 use crate::random::Random;
@@ -43,6 +43,30 @@ pub fn print(seed: u64) {
     }
     step_times(&mut random);
     set_times(&mut random);
+    parapet_times(&mut random);
+}
+
+/// 31 parapets and small projections in turn, none of them all drift.
+fn parapet_times(random: &mut Random) {
+    let sheets: Vec<_> = (0..SHEETS).map(|_| parapets(random)).collect();
+    println!(
+        "TIMES {SHEETS} sheets of 31 roofs of kinds 11 and 12, situation 3, {} lines a listing",
+        lines(&sheets)
+    );
+    listing_times(&EMPTY, &sheets).print("listing");
+    verdict_times(&EMPTY, &sheets).print("verdict");
+}
+
+fn parapets(random: &mut Random) -> Vec<u8> {
+    let mut items = vec![draft::site_in(random, 3)];
+    for kind in [PARAPET, SMALL_PROJECTION].into_iter().cycle().take(31) {
+        let mut roof = draft::item(random, kind);
+        for [_, width] in draft::steps_and_widths(kind) {
+            draft::put(&mut roof, *width, random.between(15_001, 100_000));
+        }
+        items.push(roof);
+    }
+    draft::sheet(random, &items)
 }
 
 /// Dated jobs that use the last of 32 sets, with one arch and with 31.

@@ -42,6 +42,8 @@ const DAY: usize = 2;
 const PITCHES: RangeInclusive<u16> = 0..=800;
 const WIDTHS: RangeInclusive<u32> = 1..=100_000;
 const STEPS: RangeInclusive<u32> = 1..=30_000;
+/// Heights of a small projection in mm, up to 1 m.
+const SMALL_HEIGHTS: RangeInclusive<u32> = 1..=1_000;
 
 /// Numbers of the refusals.
 pub mod number {
@@ -199,6 +201,23 @@ pub struct SteppedRoof {
     pub side: usize,
 }
 
+/// A parapet at the left end of a flat roof, as Annex B sees it, in mm.
+#[derive(Clone, Copy, Debug)]
+pub struct Parapet {
+    pub height: u32,
+    /// b1, the roof behind the parapet.
+    pub width: u32,
+    /// b2
+    pub other_width: u32,
+}
+
+/// One side of a small projection on a flat roof, in mm.
+#[derive(Clone, Copy, Debug)]
+pub struct Side {
+    pub height: u32,
+    pub width: u32,
+}
+
 /// A roof whose figures lie within their ranges.
 #[derive(Clone, Copy, Debug)]
 #[allow(clippy::large_enum_variant)] // a sheet holds at most 31 of them
@@ -207,9 +226,19 @@ pub enum Roof {
     Pitched([Slope; 2]),
     MultiSpan(MultiSpan),
     Drift(DriftRoof),
-    Cylindrical { rise: u32, span: u32 },
+    Cylindrical {
+        rise: u32,
+        span: u32,
+    },
     Lower(LowerRoof),
-    Projection { height: u32, left: u32, right: u32 },
+    Projection {
+        height: u32,
+        left: u32,
+        right: u32,
+    },
+    Parapet(Parapet),
+    /// Up to 1 m high, its sides left and right.
+    SmallProjection([Side; 2]),
 }
 
 /// An item that its own rules accept.
@@ -312,7 +341,9 @@ fn decode(bytes: &[u8], is_first: bool, store: &Store) -> Result<Item, u8> {
         7 => projection(fields).map(Item::Roof),
         8 => map_site(fields, store).map(Item::Site),
         9 => drift_roof(fields).map(Item::Roof),
-        _ => stepped(fields).map(Item::Stepped),
+        10 => stepped(fields).map(Item::Stepped),
+        11 => parapet(fields).map(Item::Roof),
+        _ => small_projection(fields).map(Item::Roof),
     }
 }
 
@@ -337,6 +368,8 @@ fn length_of(kind: u8, rest: &[u8]) -> Result<usize, u8> {
         // No length fits a count of 0.
         9 => (20 * spans()?).checked_sub(6).ok_or(number::LENGTH)?,
         10 => 11,
+        11 => 13,
+        12 => 17,
         _ => return Err(number::KIND),
     })
 }
@@ -378,6 +411,10 @@ impl Fields<'_> {
 
     fn step(&mut self) -> Result<u32, u8> {
         within(self.u32(), STEPS, number::ROOF_FIELD)
+    }
+
+    fn small_height(&mut self) -> Result<u32, u8> {
+        within(self.u32(), SMALL_HEIGHTS, number::ROOF_FIELD)
     }
 
     fn guard(&mut self) -> Result<bool, u8> {
@@ -533,4 +570,22 @@ fn projection(mut fields: Fields) -> Result<Roof, u8> {
         left: fields.width()?,
         right: fields.width()?,
     })
+}
+
+fn parapet(mut fields: Fields) -> Result<Roof, u8> {
+    Ok(Roof::Parapet(Parapet {
+        height: fields.step()?,
+        width: fields.width()?,
+        other_width: fields.width()?,
+    }))
+}
+
+/// Both heights come first, then both widths.
+fn small_projection(mut fields: Fields) -> Result<Roof, u8> {
+    let heights = [fields.small_height()?, fields.small_height()?];
+    let widths = [fields.width()?, fields.width()?];
+    Ok(Roof::SmallProjection([0, 1].map(|side| Side {
+        height: heights[side],
+        width: widths[side],
+    })))
 }

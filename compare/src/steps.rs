@@ -331,6 +331,8 @@ mod tests {
             lower(),
             words(7, &[1, 1, 1]),
             drifts,
+            words(11, &[1, 1, 1]),
+            words(12, &[1, 1, 1, 1]),
         ];
         for other in others {
             assert_eq!(verdict(&[other.clone(), hall()]), 3);
@@ -386,7 +388,7 @@ mod tests {
     #[test]
     fn own_rules_come_before_upper_items() {
         let steep = pitched([801, 0], [0; 2], [1; 2]);
-        let wrong = [(steep, 8), (vec![11], 3), (vec![3], 4), (SITE.to_vec(), 5)];
+        let wrong = [(steep, 8), (vec![13], 3), (vec![3], 4), (SITE.to_vec(), 5)];
         for first in [under(9), under(1)] {
             for (item, number) in wrong.clone() {
                 assert_eq!(verdict(&[first.clone(), item]), refused(number, 2));

@@ -1,6 +1,7 @@
 //! Counts of comparisons and answers, and the disagreements.
 
 use std::cmp::Ordering;
+use std::ops::AddAssign;
 
 use second::calls::{refusal_parts, NONE, REFUSED};
 
@@ -11,6 +12,7 @@ use crate::draft;
 use crate::eaves::Eave;
 use crate::halls::{self, Step};
 use crate::jobs::{self, Job};
+use crate::parapets::{self, Parapet, SmallProjection, ALONE, WAYS};
 use crate::stores;
 
 /// The nine calls, in the order of the header.
@@ -106,6 +108,7 @@ pub struct Tally {
     pub desk: DeskTally,
     pub halls: HallTally,
     pub sets: SetTally,
+    pub parapets: ParapetTally,
     disagreements: u64,
 }
 
@@ -473,6 +476,36 @@ impl HallTally {
     }
 }
 
+/// Loads under heavier snow, and those of them that are no more than under the lighter one.
+#[derive(Default)]
+pub struct Rising {
+    heavier: u64,
+    level: u64,
+}
+
+impl Rising {
+    pub fn count(&mut self, is_level: bool) {
+        self.heavier += 1;
+        self.level += u64::from(is_level);
+    }
+
+    fn is_met(&self) -> bool {
+        0 < self.level && self.level < self.heavier
+    }
+
+    fn print(&self) {
+        let (heavier, level) = (self.heavier, self.level);
+        println!("  loads under heavier snow {heavier}, of them level {level}");
+    }
+}
+
+impl AddAssign for Rising {
+    fn add_assign(&mut self, other: Self) {
+        self.heavier += other.heavier;
+        self.level += other.level;
+    }
+}
+
 /// What was asked about national figures.
 #[derive(Default)]
 pub struct SetTally {
@@ -500,9 +533,7 @@ pub struct SetTally {
     /// Jobs before an added set whose every answer was as before, and jobs since then with another.
     pub kept: u64,
     pub moved: u64,
-    /// Loads under a heavier snow, and those of them that are no more than under the lighter one.
-    pub heavier: u64,
-    pub level: u64,
+    pub rising: Rising,
 }
 
 impl SetTally {
@@ -543,8 +574,6 @@ impl SetTally {
             self.not_added,
             self.kept,
             self.moved,
-            self.heavier,
-            self.level,
         ];
         self.sites.iter().flatten().all(|&count| count > 0)
             && self.counts.iter().chain(&self.days).all(|&count| count > 0)
@@ -552,6 +581,7 @@ impl SetTally {
             && self.every_day == jobs::EVERY_DAY
             && self.every_figure == jobs::EVERY_FIGURE
             && self.added.iter().all(|&count| count > 0)
+            && self.rising.is_met()
             && met.iter().all(|&count| count > 0)
     }
 
@@ -579,8 +609,7 @@ impl SetTally {
         );
         let (days, figures) = (self.every_day, self.every_figure);
         println!("  in turn {days} days and {figures} figures");
-        let (heavier, level) = (self.heavier, self.level);
-        println!("  loads under heavier snow {heavier}, of them level {level}");
+        self.rising.print();
         self.print_stores();
     }
 
@@ -598,6 +627,146 @@ impl SetTally {
         let (kept, moved) = (self.kept, self.moved);
         println!("  jobs as before an added set {kept}, others since {moved}");
     }
+}
+
+/// What was asked about parapets and small projections.
+#[derive(Default)]
+pub struct ParapetTally {
+    /// Drifts that were made, by kind and situation.
+    made: [[u64; 4]; 2],
+    /// Those that other coefficients and a job day left as they were.
+    pub alike: u64,
+    /// Parapets by what gives their load and what gives their length.
+    ways: [[u64; WAYS]; WAYS],
+    /// Parapets with b1 below b2, equal to it and above it.
+    widths: [u64; 3],
+    /// Left and right sides with 2h below 5 × sk, equal to it and above it, and the same of 5h and the
+    /// width.
+    sides: [[[u64; 3]; 3]; 2],
+    /// Small projections with the left peak below the right one, equal to it and above it.
+    peaks: [u64; 3],
+    /// Whether the roof is bare behind the drift of a parapet, and on the left and on the right of
+    /// those at a small projection: not, and so.
+    bare: [[u64; 2]; 3],
+    /// Refusals that were known beforehand.
+    pub refused: u64,
+    pub rising: Rising,
+}
+
+impl ParapetTally {
+    /// Counts the drift of a roof on its site.
+    pub fn count(&mut self, items: &[Vec<u8>; 2], numbers: &[u32]) {
+        let situation = draft::get(&items[0], draft::situation(&items[0]));
+        let is_bare = |loads: &[u32]| usize::from(loads == [0, 0]);
+        let left = is_bare(&numbers[2..4]);
+        let right = is_bare(&numbers[numbers.len() - 2..]);
+        let place = usize::from(items[1][0] != draft::PARAPET);
+        self.made[place][situation as usize] += 1;
+        if place == 0 {
+            self.parapet(&Parapet::of(items));
+            self.bare[0][right] += 1;
+        } else {
+            self.small_projection(&SmallProjection::of(items));
+            self.bare[1][left] += 1;
+            self.bare[2][right] += 1;
+        }
+    }
+
+    fn parapet(&mut self, case: &Parapet) {
+        self.ways[case.limits][case.lengths] += 1;
+        self.widths[case.widths] += 1;
+    }
+
+    fn small_projection(&mut self, case: &SmallProjection) {
+        for (counts, [load, length]) in self.sides.iter_mut().zip(case.sides) {
+            counts[load][length] += 1;
+        }
+        self.peaks[case.peaks] += 1;
+    }
+
+    /// All drifts that were made, by kind.
+    fn all(&self) -> [u64; 2] {
+        self.made.map(|counts| counts.iter().sum())
+    }
+
+    pub fn is_good(&self) -> bool {
+        let by_situation = |&[normal, falls, drifts, both]: &[u64; 4]| {
+            normal == 0 && falls == 0 && drifts > 0 && both == drifts
+        };
+        self.made.iter().all(by_situation)
+            && self.alike == self.all().iter().sum()
+            && self.cases().all(|&count| count > 0)
+            && self.refused == parapets::REFUSALS
+            && self.rising.is_met()
+    }
+
+    /// How often each case was met.
+    fn cases(&self) -> impl Iterator<Item = &u64> {
+        let ways = self.ways.iter().flatten();
+        let sides = self.sides.iter().flatten().flatten();
+        let orders = self.widths.iter().chain(&self.peaks);
+        ways.chain(sides)
+            .chain(orders)
+            .chain(self.bare.iter().flatten())
+    }
+
+    fn print(&self) {
+        let [parapets, projections] = self.all();
+        println!(
+            "PARAPETS {parapets} and {projections} small projections, {} alike under other coefficients",
+            self.alike
+        );
+        self.print_parapets();
+        let names = ["left", "right"];
+        for (name, table) in names.iter().zip(&self.sides) {
+            let [[height, both, ground], [long, equal, cut]] = sums(table);
+            println!("  {name} sides limited by height {height}, by ground load {ground}, by both {both}");
+            println!("    as long as 5h {long}, as the width {cut}, as both {equal}");
+        }
+        let [lower, equal, higher] = self.peaks;
+        println!("  left peaks below the right ones {lower}, equal {equal}, above {higher}");
+        let places = ["behind parapets", "on the left", "on the right"];
+        for (place, [not, bare]) in places.iter().zip(self.bare) {
+            println!("  bare {place} {bare}, not {not}");
+        }
+        println!("  refused as known beforehand {}", self.refused);
+        self.rising.print();
+    }
+
+    fn print_parapets(&self) {
+        let [limits, lengths] = sums(&self.ways);
+        let several = |counts: [u64; WAYS], alone: [u64; 3]| {
+            counts.iter().sum::<u64>() - alone.iter().sum::<u64>()
+        };
+        let alone = ALONE.map(|way| limits[way]);
+        let [height, widths, ground] = alone;
+        println!(
+            "  parapets limited by height {height}, by widths {widths}, by ground load {ground}, by several {}",
+            several(limits, alone)
+        );
+        let alone = ALONE.map(|way| lengths[way]);
+        let [height, width, longest] = alone;
+        println!(
+            "    as long as 5h {height}, as b1 {width}, as 15,000 {longest}, as several {}",
+            several(lengths, alone)
+        );
+        println!(
+            "    each of {} ways together at least {} times",
+            WAYS * WAYS,
+            self.ways.iter().flatten().min().unwrap_or(&0)
+        );
+        let [below, equal, above] = self.widths;
+        println!("    b1 below b2 {below}, equal {equal}, above {above}");
+    }
+}
+
+/// The sums of a table by row and by column.
+fn sums<const N: usize>(table: &[[u64; N]; N]) -> [[u64; N]; 2] {
+    let columns = |column: usize| table.iter().map(|row| row[column]).sum();
+    [
+        table.map(|row| row.iter().sum()),
+        std::array::from_fn(columns),
+    ]
 }
 
 impl Tally {
@@ -622,6 +791,7 @@ impl Tally {
             desk: DeskTally::default(),
             halls: HallTally::default(),
             sets: SetTally::default(),
+            parapets: ParapetTally::default(),
             disagreements: 0,
         }
     }
@@ -702,8 +872,8 @@ impl Tally {
     /// No disagreement, and every refusal, every slice length, every missing index, every place of
     /// the map, every situation, every valley, every number of a pair, every drop, at either eave an
     /// overhang by the other slope's load, every edge of the desk's ceiling, either side of every
-    /// kind of upper item, every length of a circle, and of national figures what `SetTally` counts
-    /// was met.
+    /// kind of upper item, every length of a circle, and of national figures and of parapets what
+    /// `SetTally` and `ParapetTally` count was met.
     pub fn is_good(&self) -> bool {
         self.agrees()
             && self.refused[1..].iter().all(|&count| count > 0)
@@ -720,6 +890,7 @@ impl Tally {
             && self.desk.is_good()
             && self.halls.is_good()
             && self.sets.is_good()
+            && self.parapets.is_good()
     }
 
     pub fn print(&self) {
@@ -746,6 +917,7 @@ impl Tally {
         self.desk.print();
         self.halls.print();
         self.sets.print();
+        self.parapets.print();
         self.print_lengths();
         self.print_missing();
         println!("DISAGREEMENTS {}", self.disagreements);

@@ -26,7 +26,7 @@ struct place {
     uint16_t altitude;
 };
 
-static const uint8_t codes[] = {1,  2,  3,  11, 12, 13, /* then a drift in each of up to 15 valleys */
+static const uint8_t codes[] = {1,  2,  3,  11, 12, 13, /* then a drift in each of up to 15 valleys; 31 at an obstruction too */
                                 31, 32, 33, 34, 35, 36, 37, 38, 39, 40, 41, 42, 43, 44, 45};
 static const size_t missing[] = {255, 256, 65534, 65535, 65536, SIZE_MAX}; /* no sheet has such an item */
 static const struct place on_map[] = {

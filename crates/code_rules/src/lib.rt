@@ -3,7 +3,7 @@
 
 ghost use Rattle.std.specs.Prelude.{◌≡◌, ◌≤◌};
 ghost use Rattle.figures.specs.Bounds.{SiteIn};
-ghost use Rattle.figures.specs.RoofRules.{kind_of, span_count};
+ghost use Rattle.figures.specs.RoofRules.{kind_of, drifts_of};
 ghost use Rattle.standard.specs.Arrangements.{exceptional_of, factor_of};
 ghost use Rattle.standard.specs.Codes.{exists_in};
 
@@ -29,7 +29,7 @@ pub fn factor(site: Site, code: u8) -> u64
 
 // Whether a roof has the arrangement in the site's situation. Where it hasn't, the refusal is 13.
 pub fn has_arrangement(site: Site, shape: Shape, code: u8) -> bool
-    ensures { result ≡ exists_in (kind_of shape) site.situation (span_count shape) code }
+    ensures { result ≡ exists_in (kind_of shape) site.situation (drifts_of shape) code }
 {
     RoofCodes::of(shape, site.situation).has(code)
 }

@@ -1,39 +1,48 @@
-// Which arrangements and local forces exist, and which valley a code names.
+// Which arrangements and local forces exist, and which drift a code names.
 #![tactic(auto)]
 
 ghost use Rattle.std.specs.Prelude.{◌≡◌, ◌≤◌, true, cond, Some, None};
 ghost use Rattle.figures.specs.Kind.{kind_number};
-ghost use Rattle.figures.specs.RoofRules.{kind_of, span_count};
-ghost use Rattle.standard.specs.Codes.{persistent_by, drifts_in, accidental, base_code, accidental_in, names_valley, valley_named, exists_in, last_code, forces_in};
+ghost use Rattle.figures.specs.Ranges.{within};
+ghost use Rattle.figures.specs.RoofRules.{kind_of, drifts_of};
+ghost use Rattle.standard.specs.Codes.{persistent_by, drifts_in, accidental, base_code, accidental_in, names_drift, drift_named, exists_in, first_code, last_code, forces_in};
 
 use figures::{Kind, Shape};
 
-// What the codes of a roof depend on: its kind, the situation, and its number of spans, which is 0 where it is not multi-span. Codes are
-// document 01's numbers, since a call may ask for any.
+// What the codes of a roof depend on: its kind, the situation, and how many exceptional drifts it has room for. Codes are document 01's
+// numbers, since a call may ask for any.
 #[derive(Clone, Copy, Debug, PartialEq, Eq)]
 pub struct RoofCodes {
     pub kind: Kind,
     pub situation: u8,
-    pub spans: u8,
+    pub drifts: u8,
 }
 
 impl RoofCodes {
     // The codes of a roof of a shape.
     pub fn of(shape: Shape, situation: u8) -> Self
-        ensures { (kind_number result.kind ≡ kind_of shape) × (result.situation ≡ situation) × (result.spans ≡ span_count shape) }
+        ensures { (kind_number result.kind ≡ kind_of shape) × (result.situation ≡ situation) × (result.drifts ≡ drifts_of shape) }
     {
         RoofCodes {
             kind: shape.kind(),
             situation,
-            spans: shape.span_count(),
+            drifts: shape.drifts(),
         }
     }
 
-    // Whether a roof has drifts in its valleys, in place of code 2.
+    // Whether the roof is a parapet's or a small projection's.
+    fn is_obstructed(self) -> bool
+        ensures { result ≡ within 11 12 (kind_number self.kind) }
+    {
+        matches!(self.kind, Kind::Parapet | Kind::SmallProjection)
+    }
+
+    // Whether a roof has exceptional drifts: in its valleys, in place of code 2, or at an obstruction.
     fn has_drifts(self) -> bool
         ensures { result ≡ drifts_in (kind_number self.kind) self.situation }
     {
-        self.kind == Kind::DriftedMultiSpan && (2..=3).contains(&self.situation)
+        let can_drift = self.kind == Kind::DriftedMultiSpan || self.is_obstructed();
+        can_drift && (2..=3).contains(&self.situation)
     }
 
     // Whether the accidental code of a shape exists where its persistent one does.
@@ -48,23 +57,30 @@ impl RoofCodes {
     // Whether an arrangement exists.
     #[tactic(auto, unfolding(standard::specs::Codes::exists_in))]
     pub fn has(self, code: u8) -> bool
-        ensures { result ≡ exists_in (kind_number self.kind) self.situation self.spans code }
+        ensures { result ≡ exists_in (kind_number self.kind) self.situation self.drifts code }
     {
         if is_accidental(code) {
             return self.has_accidental(code);
         }
-        let drifts = self.has_drifts();
-        is_persistent(self.kind, code) && !(drifts && code == 2)
-            || drifts && named_valley(self.spans, code).is_some()
+        let drifting = self.has_drifts();
+        is_persistent(self.kind, code) && !(drifting && code == 2)
+            || drifting && named_drift(self.drifts, code).is_some()
+    }
+
+    // The first code that may exist.
+    pub fn first(self) -> u8
+        ensures { result ≡ first_code (kind_number self.kind) }
+    {
+        if self.is_obstructed() { 31 } else { 1 }
     }
 
     // The last code that may exist, a number as any that may be asked for.
     pub fn last(self) -> u8
-        requires { self.spans ≤ 16 }
-        ensures { result ≡ last_code (kind_number self.kind) self.situation self.spans }
+        requires { self.drifts ≤ 15 }
+        ensures { result ≡ last_code (kind_number self.kind) self.situation self.drifts }
     {
         if self.has_drifts() {
-            29 + self.spans
+            30 + self.drifts
         } else {
             13
         }
@@ -81,7 +97,7 @@ fn is_persistent(kind: Kind, code: u8) -> bool
         Kind::MultiSpan | Kind::DriftedMultiSpan => (1..=2).contains(&code),
         Kind::Cylindrical | Kind::Abutting | Kind::Stepped => (1..=2).contains(&code),
         Kind::Projection => code == 2,
-        Kind::Site | Kind::MapSite => false,
+        Kind::Parapet | Kind::SmallProjection | Kind::Site | Kind::MapSite => false,
     }
 }
 
@@ -99,12 +115,12 @@ pub fn base_code(code: u8) -> u8
     if is_accidental(code) { code - 10 } else { code }
 }
 
-// The valley that a code names between so many spans, from 0 at the left.
-pub fn named_valley(spans: u8, code: u8) -> Option<usize>
-    ensures { result ≡ cond (names_valley spans code) (Some (valley_named code)) None }
+// The drift that a code names among so many, from 0 at the left.
+pub fn named_drift(drifts: u8, code: u8) -> Option<usize>
+    ensures { result ≡ cond (names_drift drifts code) (Some (drift_named code)) None }
 {
-    let valley = code.checked_sub(31)?;
-    (valley < spans.saturating_sub(1)).then_some(usize::from(valley))
+    let drift = code.checked_sub(31)?;
+    (drift < drifts).then_some(usize::from(drift))
 }
 
 // Whether a kind has local forces.

@@ -7,18 +7,20 @@ use borrow.Author.Tests.{leb-true, ltb-false, not-false}
 use lib.Dec.{leb, ltb}
 use native.Mathlib.Nat.{eq-or-lt_of_le}
 use native.Mathlib.Omega.{arith}
-use Rattle.figures.specs.Bounds.{Within, SiteIn, SlopeIn, GuardedIn, ShapeIn}
+use Rattle.figures.specs.Bounds.{Within, SiteIn, SlopeIn, GuardedIn, ObstructionIn, ShapeIn}
 use Rattle.figures.specs.Ranges.{within}
 use Rattle.figures.specs.Rules.{refused_if}
 use Rattle.figures.specs.SiteRules.{ground_field, other_fields, site_fields, site_refusal}
-use Rattle.figures.specs.RoofRules.{span_count, slope_fields, guarded_fields, slopes_fields, span_fields, widest_upper, shape_refusal}
+use Rattle.figures.specs.RoofRules.{drifts_of, slope_fields, guarded_fields, slopes_fields, span_fields, widest_upper, projection_fields, obstruction_fields, shape_refusal}
 use Rattle.figures.specs.Spans.{slope_of}
 use Rattle.figures.specs.declared.site.Site.{Site}
 use Rattle.figures.specs.declared.slopes.Slope.{Slope}
 use Rattle.figures.specs.declared.slopes.GuardedSlope.{GuardedSlope}
 use Rattle.figures.specs.declared.slopes.Spans.{Spans}
+use Rattle.figures.specs.declared.roof.Obstruction.{Obstruction}
+use Rattle.figures.specs.declared.roof.Obstruction.TheVariants.{Parapet, SmallProjection}
 use Rattle.figures.specs.declared.roof.Shape.{Shape}
-use Rattle.figures.specs.declared.roof.Shape.TheVariants.{Monopitch, Pitched, MultiSpan, Cylindrical, Abutting, Projection}
+use Rattle.figures.specs.declared.roof.Shape.TheVariants.{Monopitch, Pitched, MultiSpan, Cylindrical, Abutting, Projection, Obstructed}
 use Rattle.figures.proofs.Laws.{both, within_in, kept, none_broken}
 
 pub range : (low high x : ℕ) → within low high x ≡ true → Within low high x
@@ -76,6 +78,28 @@ widest false b1 h =
     let p = range 1 100000 b1 h in
     record { low = p.low; high = omega (arith, p.high) }
 
+-- a height and two widths
+heights : (h left right : ℕ) → projection_fields h left right ≡ true → Within 1 30000 h × Within 1 100000 left × Within 1 100000 right
+heights h left right e =
+    let p = both (within 1 30000 h && within 1 100000 left) (within 1 100000 right) e in
+    let q = both (within 1 30000 h) (within 1 100000 left) p.0 in
+    (range 1 30000 h q.0, range 1 100000 left q.1, range 1 100000 right p.1)
+
+obstruction_in : (by : Obstruction) → obstruction_fields by ≡ true → ObstructionIn by
+obstruction_in (Parapet h b1 b2) e =
+    let p = heights h b1 b2 e in
+    record { height = p.0; behind = p.1; other = p.2 }
+obstruction_in (SmallProjection h1 h2 b1 b2) e =
+    let p = both (within 1 1000 h1 && within 1 1000 h2 && within 1 100000 b1) (within 1 100000 b2) e in
+    let q = both (within 1 1000 h1 && within 1 1000 h2) (within 1 100000 b1) p.0 in
+    let r = both (within 1 1000 h1) (within 1 1000 h2) q.0 in
+    record {
+      left_height = range 1 1000 h1 r.0;
+      right_height = range 1 1000 h2 r.1;
+      left = range 1 100000 b1 q.1;
+      right = range 1 100000 b2 p.1;
+    }
+
 -- what the rules tell, kind by kind
 pub shape_in : (sh : Shape) (l : Spans) → shape_refusal sh l ≡ 0 → ShapeIn sh l
 unfolding shape_refusal
@@ -106,15 +130,16 @@ shape_in (Abutting lower) l e =
       slope = guarded_in lower.slope p.1;
     }
 shape_in (Projection p) l e =
-    let f = both (within 1 30000 p.h && within 1 100000 p.left) (within 1 100000 p.right) (sound _ 8 (omega arith) e) in
-    let g = both (within 1 30000 p.h) (within 1 100000 p.left) f.0 in
-    record { height = range 1 30000 p.h g.0; left = range 1 100000 p.left g.1; right = range 1 100000 p.right f.1 }
+    let f = heights p.h p.left p.right (sound _ 8 (omega arith) e) in
+    record { height = f.0; left = f.1; right = f.2 }
+shape_in (Obstructed by) l e = obstruction_in by (sound (obstruction_fields by) 8 (omega arith) e)
 
--- no roof has more than 16 spans
-pub few_spans : (sh : Shape) (l : Spans) → ShapeIn sh l → span_count sh ≤ 16
-few_spans (Monopitch slope) l f = omega arith
-few_spans (Pitched left right) l f = omega arith
-few_spans (MultiSpan count drifts) l f = f.count.high
-few_spans (Cylindrical arch) l f = omega arith
-few_spans (Abutting lower) l f = omega arith
-few_spans (Projection p) l f = omega arith
+-- no roof has more than 15 drifts
+pub few_drifts : (sh : Shape) (l : Spans) → ShapeIn sh l → drifts_of sh ≤ 15
+few_drifts (Monopitch slope) l f = omega arith
+few_drifts (Pitched left right) l f = omega arith
+few_drifts (MultiSpan count drifts) l f = omega (arith, f.count.high)
+few_drifts (Cylindrical arch) l f = omega arith
+few_drifts (Abutting lower) l f = omega arith
+few_drifts (Projection p) l f = omega arith
+few_drifts (Obstructed by) l f = omega arith

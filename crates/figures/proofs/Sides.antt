@@ -11,8 +11,9 @@ use Rattle.figures.specs.RoofRules.{kind_of, shape_refusal, roof_refusal}
 use Rattle.figures.specs.Slopes.{slope_at, SlopesIn}
 use Rattle.figures.specs.declared.slopes.GuardedSlope.{GuardedSlope}
 use Rattle.figures.specs.declared.slopes.Spans.{Spans}
+use Rattle.figures.specs.declared.roof.Obstruction.TheVariants.{Parapet, SmallProjection}
 use Rattle.figures.specs.declared.roof.Shape.{Shape}
-use Rattle.figures.specs.declared.roof.Shape.TheVariants.{Monopitch, Pitched, MultiSpan, Cylindrical, Abutting, Projection}
+use Rattle.figures.specs.declared.roof.Shape.TheVariants.{Monopitch, Pitched, MultiSpan, Cylindrical, Abutting, Projection, Obstructed}
 use Rattle.figures.specs.declared.roof.Roof.{Roof}
 use Rattle.figures.proofs.Accepted.{shape_in}
 use Rattle.figures.proofs.Tests.{clash}
@@ -35,6 +36,7 @@ shape_sides (MultiSpan count drifts) spans n f = tt
 shape_sides (Cylindrical arch) spans n f = tt
 shape_sides (Abutting lower) spans n f = tt
 shape_sides (Projection p) spans n f = tt
+shape_sides (Obstructed by) spans n f = tt
 
 -- another kind has no slope here
 pub no_sides :
@@ -67,6 +69,7 @@ no_slopes (MultiSpan count drifts) n e = refl
 no_slopes (Cylindrical arch) n e = refl
 no_slopes (Abutting lower) n e = refl
 no_slopes (Projection p) n e = refl
+no_slopes (Obstructed by) n e = refl
 
 -- a slope keeps its bounds where there is one
 abbrev pub SideKept : Option GuardedSlope → Type 0
@@ -95,3 +98,5 @@ first_present (Abutting lower) e = no_kind lower.stepped e
     no_kind true h = h
     no_kind false h = h
 first_present (Projection p) e = e
+first_present (Obstructed (Parapet h b1 b2)) e = e
+first_present (Obstructed (SmallProjection h1 h2 b1 b2)) e = e

@@ -11,9 +11,11 @@ use Rattle.figures.specs.declared.slopes.Spans.{Spans}
 use Rattle.figures.specs.declared.roof.Arch.{Arch}
 use Rattle.figures.specs.declared.roof.AbuttingRoof.{AbuttingRoof}
 use Rattle.figures.specs.declared.roof.ProjectionRoof.{ProjectionRoof}
+use Rattle.figures.specs.declared.roof.Obstruction.{Obstruction}
+use Rattle.figures.specs.declared.roof.Obstruction.TheVariants.{Parapet, SmallProjection}
 use Rattle.figures.specs.declared.roof.Shape.{Shape}
 use Rattle.figures.specs.declared.roof.Roof.{Roof}
-use Rattle.figures.specs.declared.roof.Shape.TheVariants.{Monopitch, Pitched, MultiSpan, Cylindrical, Abutting, Projection}
+use Rattle.figures.specs.declared.roof.Shape.TheVariants.{Monopitch, Pitched, MultiSpan, Cylindrical, Abutting, Projection, Obstructed}
 
 pub record Within (a b x : ℕ) : Type 0 where
   pub low : a ≤ x
@@ -68,6 +70,21 @@ pub record ProjectionIn (p : ProjectionRoof) : Type 0 where
   pub left : Within 1 100000 p.left
   pub right : Within 1 100000 p.right
 
+pub record ParapetIn (h b1 b2 : ℕ) : Type 0 where
+  pub height : Within 1 30000 h
+  pub behind : Within 1 100000 b1
+  pub other : Within 1 100000 b2
+
+pub record SmallProjectionIn (h1 h2 b1 b2 : ℕ) : Type 0 where
+  pub left_height : Within 1 1000 h1
+  pub right_height : Within 1 1000 h2
+  pub left : Within 1 100000 b1
+  pub right : Within 1 100000 b2
+
+abbrev pub ObstructionIn : Obstruction → Type 0
+ObstructionIn (Parapet h b1 b2) = ParapetIn h b1 b2
+ObstructionIn (SmallProjection h1 h2 b1 b2) = SmallProjectionIn h1 h2 b1 b2
+
 abbrev pub ShapeIn : Shape → Spans → Type 0
 ShapeIn (Monopitch slope) spans = GuardedIn slope
 ShapeIn (Pitched left right) spans = PitchedIn left right
@@ -75,6 +92,7 @@ ShapeIn (MultiSpan count drifts) spans = MultiSpanIn count spans
 ShapeIn (Cylindrical arch) spans = CylindricalIn arch
 ShapeIn (Abutting lower) spans = AbuttingIn lower
 ShapeIn (Projection p) spans = ProjectionIn p
+ShapeIn (Obstructed by) spans = ObstructionIn by
 
 -- figures that no rule on values refuses, under a set of national ones
 pub record FiguresIn (n : National) (s : Site) (r : Roof) : Type 0 where

@@ -11,9 +11,16 @@ use Rattle.figures.specs.declared.roof.Arch.{Arch}
 use Rattle.figures.specs.declared.roof.AbuttingRoof.{AbuttingRoof}
 use Rattle.figures.specs.declared.roof.ProjectionRoof.{ProjectionRoof}
 use Rattle.figures.specs.declared.roof.LowerRoof.{LowerRoof}
+use Rattle.figures.specs.declared.roof.Obstruction.{Obstruction}
+use Rattle.figures.specs.declared.roof.Obstruction.TheVariants.{Parapet, SmallProjection}
 use Rattle.figures.specs.declared.roof.Shape.{Shape}
-use Rattle.figures.specs.declared.roof.Shape.TheVariants.{Monopitch, Pitched, MultiSpan, Cylindrical, Abutting, Projection}
+use Rattle.figures.specs.declared.roof.Shape.TheVariants.{Monopitch, Pitched, MultiSpan, Cylindrical, Abutting, Projection, Obstructed}
 use Rattle.figures.specs.declared.roof.Roof.{Roof}
+
+-- document 02, A9: "Item kind 11 is a parapet", "Item kind 12 is a projection up to 1 m high"
+abbrev pub obstruction_kind : Obstruction → ℕ
+obstruction_kind (Parapet h b1 b2) = 11
+obstruction_kind (SmallProjection h1 h2 b1 b2) = 12
 
 -- the kind of a shape, by the documents' number
 abbrev pub kind_of : Shape → ℕ
@@ -23,15 +30,18 @@ kind_of (MultiSpan count drifts) = cond drifts 9 4
 kind_of (Cylindrical arch) = 5
 kind_of (Abutting lower) = cond lower.stepped 10 6
 kind_of (Projection p) = 7
+kind_of (Obstructed by) = obstruction_kind by
 
--- the spans of a multi-span roof, 0 for any other
-abbrev pub span_count : Shape → ℕ
-span_count (Monopitch slope) = 0
-span_count (Pitched left right) = 0
-span_count (MultiSpan count drifts) = count
-span_count (Cylindrical arch) = 0
-span_count (Abutting lower) = 0
-span_count (Projection p) = 0
+-- how many exceptional drifts of Annex B a shape has room for: one in each valley of a multi-span roof, one at an obstruction; which of
+-- them exist is told by the kind and the situation
+abbrev pub drifts_of : Shape → ℕ
+drifts_of (Monopitch slope) = 0
+drifts_of (Pitched left right) = 0
+drifts_of (MultiSpan count drifts) = count - 1
+drifts_of (Cylindrical arch) = 0
+drifts_of (Abutting lower) = 0
+drifts_of (Projection p) = 0
+drifts_of (Obstructed by) = 1
 
 -- a roof of a shape, with the spans of a multi-span roof
 abbrev pub roof_of : Shape → Spans → Roof
@@ -99,8 +109,23 @@ abbrev pub abutting_refusal : AbuttingRoof → ℕ
 abutting_refusal lower =
     refused_if (not (within 1 (widest_upper lower.stepped) lower.b1 && within 1 100000 lower.b2 && within 1 30000 lower.h && guarded_fields lower.slope)) 8
 
+-- a height and two widths: the fields of kind 7, and of kind 11, document 02, A9: "h and the widths keep document 01's ranges"
+abbrev pub projection_fields : ℕ → ℕ → ℕ → Bool
+projection_fields h left right = within 1 30000 h && within 1 100000 left && within 1 100000 right
+
 abbrev pub projection_refusal : ProjectionRoof → ℕ
-projection_refusal p = refused_if (not (within 1 30000 p.h && within 1 100000 p.left && within 1 100000 p.right)) 8
+projection_refusal p = refused_if (not (projection_fields p.h p.left p.right)) 8
+
+-- kind 12: "h1 and h2 (1..1,000)"
+abbrev pub small_projection_fields : ℕ → ℕ → ℕ → ℕ → Bool
+small_projection_fields h1 h2 b1 b2 = within 1 1000 h1 && within 1 1000 h2 && within 1 100000 b1 && within 1 100000 b2
+
+abbrev pub obstruction_fields : Obstruction → Bool
+obstruction_fields (Parapet h b1 b2) = projection_fields h b1 b2
+obstruction_fields (SmallProjection h1 h2 b1 b2) = small_projection_fields h1 h2 b1 b2
+
+abbrev pub obstruction_refusal : Obstruction → ℕ
+obstruction_refusal by = refused_if (not (obstruction_fields by)) 8
 
 -- an item of kind 10 by itself: b2, h and "its adjacent side (8: 0 left, 1 right)"
 abbrev pub lower_refusal : LowerRoof → ℕ
@@ -114,6 +139,7 @@ shape_refusal (MultiSpan count drifts) spans = multi_span_refusal count drifts s
 shape_refusal (Cylindrical arch) spans = cylindrical_refusal arch
 shape_refusal (Abutting lower) spans = abutting_refusal lower
 shape_refusal (Projection p) spans = projection_refusal p
+shape_refusal (Obstructed by) spans = obstruction_refusal by
 
 -- "a roof likewise, here 8, 9 and 10": it is accepted (document 01, words of demand 3) where this is 0
 abbrev pub roof_refusal : Roof → ℕ

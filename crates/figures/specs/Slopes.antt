@@ -5,7 +5,7 @@ use Rattle.figures.specs.RoofRules.{shape_refusal}
 use Rattle.figures.specs.declared.slopes.GuardedSlope.{GuardedSlope}
 use Rattle.figures.specs.declared.slopes.Spans.{Spans}
 use Rattle.figures.specs.declared.roof.Shape.{Shape}
-use Rattle.figures.specs.declared.roof.Shape.TheVariants.{Monopitch, Pitched, MultiSpan, Cylindrical, Abutting, Projection}
+use Rattle.figures.specs.declared.roof.Shape.TheVariants.{Monopitch, Pitched, MultiSpan, Cylindrical, Abutting, Projection, Obstructed}
 
 -- the slope of a roof by its number: 1 left or only, 2 right; kinds 2 and 3 alone have slopes here
 unfoldable pub slope_at : Shape → ℕ → Option GuardedSlope
@@ -15,6 +15,7 @@ slope_at (MultiSpan count drifts) n = None
 slope_at (Cylindrical arch) n = None
 slope_at (Abutting lower) n = None
 slope_at (Projection p) n = None
+slope_at (Obstructed by) n = None
 
 -- a shape that no rule refuses, with some spans beside it
 pub record AcceptedShape (shape : Shape) : Type 0 where

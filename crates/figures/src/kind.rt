@@ -17,6 +17,8 @@ pub enum Kind {
     MapSite,
     DriftedMultiSpan,
     Stepped,
+    Parapet,
+    SmallProjection,
 }
 
 // The kind by the documents' number, which is an item's first byte.
@@ -37,6 +39,8 @@ impl TryFrom<u8> for Kind {
             8 => Ok(Kind::MapSite),
             9 => Ok(Kind::DriftedMultiSpan),
             10 => Ok(Kind::Stepped),
+            11 => Ok(Kind::Parapet),
+            12 => Ok(Kind::SmallProjection),
             _ => Err(Refusal::UnknownKind),
         }
     }

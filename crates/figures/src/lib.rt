@@ -15,7 +15,7 @@ pub use accepted_figures::AcceptedFigures;
 pub use kind::Kind;
 pub use national::{National, NationalSet};
 pub use refusal::Refusal;
-pub use roof::{AbuttingRoof, Arch, LowerRoof, ProjectionRoof, Roof, Shape};
+pub use roof::{AbuttingRoof, Arch, LowerRoof, Obstruction, ProjectionRoof, Roof, Shape};
 pub use site::{Ground, Site, SiteData};
 pub use sited_shape::SitedShape;
 pub use slopes::{GuardedSlope, Slope, Spans, Valley};

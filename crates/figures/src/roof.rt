@@ -1,7 +1,7 @@
 // A roof: its shape, with the slopes and valleys of a multi-span roof beside it.
 ghost use Rattle.std.specs.Prelude.{◌≡◌};
 ghost use Rattle.figures.specs.Kind.{kind_number};
-ghost use Rattle.figures.specs.RoofRules.{kind_of, span_count};
+ghost use Rattle.figures.specs.RoofRules.{kind_of, drifts_of};
 
 use crate::kind::Kind;
 use crate::slopes::{GuardedSlope, Spans};
@@ -42,6 +42,14 @@ pub struct LowerRoof {
     pub side: u8,
 }
 
+// What an exceptional drift of Annex B lies at. A parapet has the roof behind it, b1, and a width b2 that its load alone asks for;
+// a projection up to 1 m high has a height and a width on each side, left then right.
+#[derive(Clone, Copy, Debug, PartialEq, Eq)]
+pub enum Obstruction {
+    Parapet { h: u32, b1: u32, b2: u32 },
+    SmallProjection { h1: u32, h2: u32, b1: u32, b2: u32 },
+}
+
 // The shape of a roof. A multi-span roof has drifts in its valleys by Annex B, or none.
 #[derive(Clone, Copy, Debug, PartialEq, Eq)]
 pub enum Shape {
@@ -57,6 +65,7 @@ pub enum Shape {
     Cylindrical(Arch),
     Abutting(AbuttingRoof),
     Projection(ProjectionRoof),
+    Obstructed(Obstruction),
 }
 
 // A roof. Other shapes than multi-span have no slopes and no valleys in their spans: zeros, which no rule reads.
@@ -80,15 +89,18 @@ impl Shape {
             Shape::Abutting(AbuttingRoof { stepped: false, .. }) => Kind::Abutting,
             Shape::Abutting(AbuttingRoof { stepped: true, .. }) => Kind::Stepped,
             Shape::Projection(_) => Kind::Projection,
+            Shape::Obstructed(Obstruction::Parapet { .. }) => Kind::Parapet,
+            Shape::Obstructed(Obstruction::SmallProjection { .. }) => Kind::SmallProjection,
         }
     }
 
-    // How many spans a multi-span roof has; any other has none, 0, which codes count as they stand.
-    pub fn span_count(self) -> u8
-        ensures { result ≡ span_count self }
+    // How many exceptional drifts a roof has room for: one in each valley of a multi-span roof, one at an obstruction.
+    pub fn drifts(self) -> u8
+        ensures { result ≡ drifts_of self }
     {
         match self {
-            Shape::MultiSpan { count, .. } => count,
+            Shape::MultiSpan { count, .. } => count.saturating_sub(1),
+            Shape::Obstructed(_) => 1,
             _ => 0,
         }
     }

@@ -17,7 +17,7 @@ use Rattle.little_endian.specs.Numbers.{byte_at}
 use Rattle.item_forms.specs.declared.Item.{Item}
 use Rattle.item_forms.specs.declared.Item.TheVariants.{SiteItem, RoofItem, LowerItem}
 use Rattle.site_items.specs.SiteItems.{site_item, map_site_item}
-use Rattle.roof_items.specs.RoofItems.{monopitch_item, pitched_item, cylindrical_item, abutting_item, projection_item, lower_item}
+use Rattle.roof_items.specs.RoofItems.{monopitch_item, pitched_item, cylindrical_item, abutting_item, projection_item, lower_item, parapet_item, small_projection_item}
 use Rattle.span_items.specs.SpanItems.{SpansThere, multi_span_item, drifted_item}
 use Rattle.items.specs.Items.{by_kind, content}
 
@@ -33,7 +33,9 @@ module _ (P : Result Item Refusal → Type 0) (p : List ℕ) (refused : (e : Ref
   sized b item h = either b _ _ h (λ f. refused ItemLength)
 
   pub by_content : P (content p)
-  unfolding content by_kind site_item monopitch_item pitched_item multi_span_item cylindrical_item abutting_item projection_item map_site_item drifted_item lower_item
+  unfolding
+      content by_kind site_item monopitch_item pitched_item multi_span_item cylindrical_item abutting_item projection_item map_site_item drifted_item lower_item parapet_item
+      small_projection_item
   by_content =
       let k = byte_at p 0 in
       either (eqb (length p) 0) _ _ (λ t. refused ItemLength)
@@ -48,7 +50,9 @@ module _ (P : Result Item Refusal → Type 0) (p : List ℕ) (refused : (e : Ref
       (λ f. either (eqb k 9) _ _
       (λ t. either (eqb (byte_at p 1) 0) _ _ (λ z. refused ItemLength)
       (λ z. sized _ _ (λ l. roof _ (omega (arith, eqb-false (byte_at p 1) 0 z), omega (arith, eqb-true (length p) (20 * byte_at p 1 - 6) l)))))
-      (λ f. either (eqb k 10) _ _ (λ t. sized _ _ (λ l. lower _ (eqb-true k 10 t) (eqb-true (length p) 11 l))) (λ f. refused UnknownKind)))))))))))
+      (λ f. either (eqb k 10) _ _ (λ t. sized _ _ (λ l. lower _ (eqb-true k 10 t) (eqb-true (length p) 11 l)))
+      (λ f. either (eqb k 11) _ _ (λ t. sized _ _ (λ l. roof _ tt))
+      (λ f. either (eqb k 12) _ _ (λ t. sized _ _ (λ l. roof _ tt)) (λ f. refused UnknownKind)))))))))))))
 
 -- the bytes of a roof's spans are there
 pub spans_there : (p : List ℕ) {shape : Shape} → content p ≡ Ok (RoofItem shape) → SpansThere shape p

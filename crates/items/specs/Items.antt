@@ -5,7 +5,7 @@ use Rattle.figures.specs.declared.refusal.Refusal.TheVariants.{UnknownKind, Item
 use Rattle.little_endian.specs.Numbers.{byte_at}
 use Rattle.item_forms.specs.declared.Item.{Item}
 use Rattle.site_items.specs.SiteItems.{site_item, map_site_item}
-use Rattle.roof_items.specs.RoofItems.{monopitch_item, pitched_item, cylindrical_item, abutting_item, projection_item, lower_item}
+use Rattle.roof_items.specs.RoofItems.{monopitch_item, pitched_item, cylindrical_item, abutting_item, projection_item, lower_item, parapet_item, small_projection_item}
 use Rattle.span_items.specs.SpanItems.{multi_span_item, drifted_item}
 
 -- by its kind; "3 unknown kind"
@@ -21,7 +21,9 @@ by_kind kind p =
     (cond (eqb kind 8) (map_site_item p)
     (cond (eqb kind 9) (drifted_item p)
     (cond (eqb kind 10) (lower_item p)
-    (Err UnknownKind))))))))))
+    (cond (eqb kind 11) (parapet_item p)
+    (cond (eqb kind 12) (small_projection_item p)
+    (Err UnknownKind))))))))))))
 
 -- what an item's bytes say: "empty (4), 3, 4"
 unfoldable pub content : List ℕ → Result Item Refusal

@@ -10,8 +10,8 @@ ghost use Rattle.items.specs.Items.{content};
 use figures::{Kind, Refusal, Shape, Spans};
 pub use item_forms::Item;
 use roof_items::{
-    LOWER_LENGTH, abutting_item, cylindrical_item, lower_item, monopitch_item, pitched_item,
-    projection_item,
+    LOWER_LENGTH, abutting_item, cylindrical_item, lower_item, monopitch_item, parapet_item,
+    pitched_item, projection_item, small_projection_item,
 };
 use site_items::{map_site_item, site_item};
 use span_items::{drifted_item, multi_span_item};
@@ -33,6 +33,8 @@ pub fn decode(p: &[u8]) -> Result<Item, Refusal>
         Kind::MapSite => map_site_item(p),
         Kind::DriftedMultiSpan => drifted_item(p),
         Kind::Stepped => lower_item(p),
+        Kind::Parapet => parapet_item(p),
+        Kind::SmallProjection => small_projection_item(p),
     }
 }
 

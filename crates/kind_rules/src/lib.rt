@@ -3,9 +3,9 @@
 
 ghost use Rattle.std.specs.Prelude.{◌≡◌};
 ghost use Rattle.figures.specs.Refusal.{number_in};
-ghost use Rattle.figures.specs.RoofRules.{monopitch_refusal, pitched_refusal, multi_span_refusal, cylindrical_refusal, projection_refusal};
+ghost use Rattle.figures.specs.RoofRules.{monopitch_refusal, pitched_refusal, multi_span_refusal, cylindrical_refusal, projection_fields, projection_refusal, small_projection_fields, obstruction_refusal};
 
-use figures::{Arch, GuardedSlope, ProjectionRoof, Refusal, Spans};
+use figures::{Arch, GuardedSlope, Obstruction, ProjectionRoof, Refusal, Spans};
 use slope_rules::{guarded_fields, span_fields, steep_valleys};
 
 // Kind 2.
@@ -60,13 +60,41 @@ pub fn check_cylindrical(arch: Arch) -> Result<(), Refusal>
     Ok(())
 }
 
+// The fields of kinds 7 and 11: a height and two widths.
+fn projection_fields(h: u32, left: u32, right: u32) -> bool
+    ensures { result ≡ projection_fields h left right }
+{
+    (1..=30_000).contains(&h) && (1..=100_000).contains(&left) && (1..=100_000).contains(&right)
+}
+
 // Kind 7.
 pub fn check_projection(roof: ProjectionRoof) -> Result<(), Refusal>
     ensures { number_in result ≡ projection_refusal roof }
 {
-    let sound = (1..=30_000).contains(&roof.h)
-        && (1..=100_000).contains(&roof.left)
-        && (1..=100_000).contains(&roof.right);
+    if !projection_fields(roof.h, roof.left, roof.right) {
+        return Err(Refusal::RoofField);
+    }
+    Ok(())
+}
+
+// The fields of kind 12.
+fn small_projection_fields(h1: u32, h2: u32, b1: u32, b2: u32) -> bool
+    ensures { result ≡ small_projection_fields h1 h2 b1 b2 }
+{
+    (1..=1_000).contains(&h1)
+        && (1..=1_000).contains(&h2)
+        && (1..=100_000).contains(&b1)
+        && (1..=100_000).contains(&b2)
+}
+
+// Kinds 11 and 12.
+pub fn check_obstruction(by: Obstruction) -> Result<(), Refusal>
+    ensures { number_in result ≡ obstruction_refusal by }
+{
+    let sound = match by {
+        Obstruction::Parapet { h, b1, b2 } => projection_fields(h, b1, b2),
+        Obstruction::SmallProjection { h1, h2, b1, b2 } => small_projection_fields(h1, h2, b1, b2),
+    };
     if !sound {
         return Err(Refusal::RoofField);
     }

@@ -25,9 +25,8 @@ use Rattle.rounding.specs.Load.{break_load}
 use Rattle.rounding.specs.Ramp.{reading}
 use Rattle.rounding.specs.Up.{ceil_div, rounded_up}
 use Rattle.items.specs.Items.{by_kind, content}
-use Rattle.site_items.specs.SiteItems.{day_at, site_sized, site_item, map_site_item}
+use Rattle.site_items.specs.SiteItems.{day_at, site_item, map_site_item}
 use Rattle.roof_items.specs.RoofItems.{monopitch_item}
-use Rattle.item_forms.specs.Forms.{sized}
 use Rattle.sheet_figures.specs.Find.{sheet_site, sheet_national, sheet_roof}
 use Rattle.sheet_figures.specs.MapSites.{given_item, GivenLoad}
 use Rattle.pairs.specs.Pairs.{pair_number, in_turn, pairs_verdict, part}

@@ -1,8 +1,9 @@
--- The items of a roof that has no spans beside it: kinds 2, 3, 5, 6 and 7 of document 01, and kind 10 of document 02.
+-- The items of a roof that has no spans beside it: kinds 2, 3, 5, 6 and 7 of document 01, and kinds 10 to 12 of document 02.
 use Rattle.std.specs.Prelude.{ℕ, false, List, Result}
 use Rattle.figures.specs.declared.refusal.Refusal.{Refusal}
 use Rattle.figures.specs.declared.roof.LowerRoof.{LowerRoof}
-use Rattle.figures.specs.declared.roof.Shape.TheVariants.{Monopitch, Pitched, Cylindrical, Abutting, Projection}
+use Rattle.figures.specs.declared.roof.Obstruction.TheVariants.{Parapet, SmallProjection}
+use Rattle.figures.specs.declared.roof.Shape.TheVariants.{Monopitch, Pitched, Cylindrical, Abutting, Projection, Obstructed}
 use Rattle.figures.specs.declared.slopes.GuardedSlope.{GuardedSlope}
 use Rattle.little_endian.specs.Numbers.{byte_at, le32}
 use Rattle.item_forms.specs.Forms.{sized, slope_at}
@@ -40,3 +41,11 @@ lower_at p = record { b2 = le32 p 1; h = le32 p 5; upper = byte_at p 9; side = b
 
 unfoldable pub lower_item : List ℕ → Result Item Refusal
 lower_item p = sized 11 p (LowerItem (lower_at p))
+
+-- "Item kind 11 is a parapet: h, b1 (the roof behind it, the whole length read), b2 (used in b alone)"; "Fields have 32 bits": 13 bytes
+unfoldable pub parapet_item : List ℕ → Result Item Refusal
+parapet_item p = sized 13 p (RoofItem (Obstructed (Parapet (le32 p 1) (le32 p 5) (le32 p 9))))
+
+-- "Item kind 12 is a projection up to 1 m high: h1 and h2 (1..1,000), b1 and b2, left then right": 17 bytes
+unfoldable pub small_projection_item : List ℕ → Result Item Refusal
+small_projection_item p = sized 17 p (RoofItem (Obstructed (SmallProjection (le32 p 1) (le32 p 5) (le32 p 9) (le32 p 13))))

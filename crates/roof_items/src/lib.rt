@@ -1,10 +1,12 @@
-// The items of a roof that has no spans beside it, kinds 2, 3, 5, 6, 7 and 10.
-#![tactic(auto, unfolding(crate::specs::RoofItems::monopitch_item, crate::specs::RoofItems::pitched_item, crate::specs::RoofItems::cylindrical_item, crate::specs::RoofItems::abutting_item, crate::specs::RoofItems::projection_item, crate::specs::RoofItems::lower_item))]
+// The items of a roof that has no spans beside it, kinds 2, 3, 5, 6, 7 and 10 to 12.
+#![tactic(auto, unfolding(crate::specs::RoofItems::monopitch_item, crate::specs::RoofItems::pitched_item, crate::specs::RoofItems::cylindrical_item, crate::specs::RoofItems::abutting_item, crate::specs::RoofItems::projection_item, crate::specs::RoofItems::lower_item, crate::specs::RoofItems::parapet_item, crate::specs::RoofItems::small_projection_item))]
 
 ghost use Rattle.std.specs.Prelude.{◌≡◌, ◌+◌, ◌<◌, ◌≤◌, length};
-ghost use Rattle.roof_items.specs.RoofItems.{guarded_at, monopitch_item, pitched_item, cylindrical_item, abutting_item, projection_item, lower_at, lower_item};
+ghost use Rattle.roof_items.specs.RoofItems.{guarded_at, monopitch_item, pitched_item, cylindrical_item, abutting_item, projection_item, lower_at, lower_item, parapet_item, small_projection_item};
 
-use figures::{AbuttingRoof, Arch, GuardedSlope, LowerRoof, ProjectionRoof, Refusal, Shape};
+use figures::{
+    AbuttingRoof, Arch, GuardedSlope, LowerRoof, Obstruction, ProjectionRoof, Refusal, Shape,
+};
 use item_forms::{Item, check_length, slope_at};
 use little_endian::u32_at;
 
@@ -97,4 +99,29 @@ pub fn lower_item(p: &[u8]) -> Result<Item, Refusal>
 {
     check_length(p, LOWER_LENGTH)?;
     Ok(Item::LowerItem(lower_at(p)))
+}
+
+// A parapet.
+pub fn parapet_item(p: &[u8]) -> Result<Item, Refusal>
+    ensures { result ≡ parapet_item p.now }
+{
+    check_length(p, 13)?;
+    Ok(Item::RoofItem(Shape::Obstructed(Obstruction::Parapet {
+        h: u32_at(p, 1),
+        b1: u32_at(p, 5),
+        b2: u32_at(p, 9),
+    })))
+}
+
+// A projection up to 1 m high.
+pub fn small_projection_item(p: &[u8]) -> Result<Item, Refusal>
+    ensures { result ≡ small_projection_item p.now }
+{
+    check_length(p, 17)?;
+    Ok(Item::RoofItem(Shape::Obstructed(Obstruction::SmallProjection {
+        h1: u32_at(p, 1),
+        h2: u32_at(p, 5),
+        b1: u32_at(p, 9),
+        b2: u32_at(p, 13),
+    })))
 }

@@ -3,7 +3,7 @@
 
 ghost use Rattle.std.specs.Prelude.{true, ◌≡◌, ◌+◌, ◌*◌, ◌≤◌, length};
 ghost use Rattle.figures.specs.Kind.{kind_number};
-ghost use Rattle.figures.specs.RoofRules.{kind_of, span_count};
+ghost use Rattle.figures.specs.RoofRules.{kind_of, drifts_of};
 ghost use Rattle.roof_rows.specs.Rows.{code_rows, arrangement_rows, roof_rows, row_count};
 ghost use Rattle.standard.specs.Arrangements.{exists};
 ghost use Rattle.text.specs.Written.{Wrote};
@@ -49,7 +49,7 @@ fn list_code(
     code: u8,
     numbers: &mut [u32; NUMBERS],
 )
-    requires codes { let f = figures.now in (kind_number codes.kind ≡ kind_of f.roof.shape) × (codes.situation ≡ f.site.situation) × (codes.spans ≡ span_count f.roof.shape) }
+    requires codes { let f = figures.now in (kind_number codes.kind ≡ kind_of f.roof.shape) × (codes.situation ≡ f.site.situation) × (codes.drifts ≡ drifts_of f.roof.shape) }
     requires room { let f = figures.now in out.old.at + 66 * row_count f.national f.site f.roof code ≤ length out.old.bytes.now }
     ensures wrote { let f = figures.now in Wrote out.old (code_rows f.national f.site f.roof item code) out.new }
     ensures upper_bound { let f = figures.now in out.new.at ≤ out.old.at + 66 * row_count f.national f.site f.roof code }
@@ -67,7 +67,7 @@ fn list_codes(out: &mut Writer, figures: &AcceptedFigures, item: u32, numbers: &
     ensures upper_bound { out.new.at ≤ out.old.at + 8448 }
 {
     let codes = RoofCodes::of(figures.roof.shape, figures.site.situation);
-    for code in 1..=codes.last() {
+    for code in codes.first()..=codes.last() {
         list_code(out, figures, codes, item, code, numbers);
     }
 }

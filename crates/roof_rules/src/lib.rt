@@ -7,7 +7,8 @@ ghost use Rattle.figures.specs.RoofRules.{shape_refusal, roof_refusal};
 
 use figures::{Refusal, Roof, Shape, Spans};
 use kind_rules::{
-    check_cylindrical, check_monopitch, check_multi_span, check_pitched, check_projection,
+    check_cylindrical, check_monopitch, check_multi_span, check_obstruction, check_pitched,
+    check_projection,
 };
 use lower_rules::check_abutting;
 
@@ -23,6 +24,7 @@ pub fn check_shape(shape: Shape, spans: &Spans) -> Result<(), Refusal>
         Shape::Cylindrical(arch) => check_cylindrical(arch),
         Shape::Abutting(roof) => check_abutting(roof),
         Shape::Projection(roof) => check_projection(roof),
+        Shape::Obstructed(by) => check_obstruction(by),
     }
 }
 

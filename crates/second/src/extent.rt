@@ -1,7 +1,7 @@
 // How far a roof reaches.
 use figures::{AbuttingRoof, Arch, ProjectionRoof, Roof, Shape};
 use second_numbers::quarters;
-use second_slopes::slope_start;
+use second_shapes::{obstructed_length, slope_start};
 
 // The roof's end in quarter millimetres.
 pub fn roof_end(roof: &Roof) -> u32 {
@@ -16,5 +16,6 @@ pub fn roof_end(roof: &Roof) -> u32 {
         Shape::Projection(ProjectionRoof { left, right, .. }) => {
             quarters(left.saturating_add(right))
         }
+        Shape::Obstructed(by) => quarters(obstructed_length(by)),
     }
 }

@@ -1,8 +1,8 @@
 // Local forces, over the whole load S of a slope or the larger of two.
+use crate::loads::{Ground, WHOLE};
 use figures::{GuardedSlope, Roof, Shape, Site};
-use second_loads::{Ground, WHOLE};
 use second_numbers::{Wide, sine};
-use second_slopes::on_monopitch;
+use second_shapes::on_monopitch;
 
 // The slope of a number: kind 2 has slope 1, kind 3 slopes 1 and 2, other kinds none. The library's own plays no part here.
 fn slope_of(shape: Shape, number: u8) -> Option<GuardedSlope> {

@@ -2,13 +2,15 @@
 // divides a load: a load rounded up is the least whole number that reaches it, found by halving an interval.
 #![tactic(auto)]
 
+mod codes;
 mod extent;
 mod force;
 mod load_case;
+mod loads;
 
+pub use codes::exists;
 pub use extent::roof_end;
 pub use force::{guard_force, overhang};
 pub use load_case::LoadCase;
-pub use second_codes::exists;
-pub use second_loads::{Ground, TENTHS, WHOLE};
+pub use loads::{Ground, TENTHS, WHOLE};
 pub use second_numbers::Segment;

@@ -1,14 +1,14 @@
 // A roof in one arrangement under a job: its segments from left to right, and the loads read on them.
 ghost use Rattle.std.specs.Prelude.{◌≤◌, ◌<◌};
 
+use crate::codes::persistent;
+use crate::loads::Ground;
 use figures::{AbuttingRoof, National, Roof, Shape, Site};
-use second_arch::{arch_count, on_cylinder};
-use second_codes::persistent;
-use second_drifts::{Wall, around_projection, projection_count};
-use second_loads::Ground;
 use second_numbers::{Ratio, Segment};
-use second_slopes::{on_left, on_monopitch, on_right, on_spans};
-use second_valleys::{DRIFT_SEGMENTS, in_drift};
+use second_shapes::{
+    DRIFT_SEGMENTS, Wall, arch_count, around_projection, at_obstruction, in_drift,
+    obstruction_count, on_cylinder, on_left, on_monopitch, on_right, on_spans, projection_count,
+};
 
 // The slopes of a multi-span roof.
 fn slope_count(count: u8) -> usize
@@ -57,6 +57,7 @@ impl<'a> LoadCase<'a> {
             Shape::Cylindrical(arch) => arch_count(*arch, base),
             Shape::Abutting(roof) => self.wall(*roof).count(base),
             Shape::Projection(roof) => projection_count(*roof),
+            Shape::Obstructed(by) => obstruction_count(*by),
         }
     }
 
@@ -81,6 +82,7 @@ impl<'a> LoadCase<'a> {
             Shape::Abutting(roof) if base == 2 && i == 0 => self.wall(*roof).drift(sk),
             Shape::Abutting(roof) => self.wall(*roof).beyond(base),
             Shape::Projection(roof) => around_projection(*roof, sk, i),
+            Shape::Obstructed(by) => at_obstruction(*by, sk, i),
         }
     }
 

@@ -10,6 +10,7 @@ use drift_ramps::{
 };
 use figures::{AcceptedFigures, Shape};
 use loads::Ground;
+use obstructions::{obstruction_count, obstruction_end, obstruction_ramp};
 use ramps::Ramp;
 use slope_ramps::{pitched_ramp, slope_ramp, widths_between};
 
@@ -25,6 +26,7 @@ pub fn count_in(figures: &AcceptedFigures, code: u8) -> usize
         Shape::Cylindrical(arch) => cylindrical_count(arch, code),
         Shape::Abutting(roof) => abutting_count(figures.national, roof, code),
         Shape::Projection(roof) => projection_count(roof),
+        Shape::Obstructed(by) => obstruction_count(by),
     }
 }
 
@@ -42,6 +44,7 @@ pub fn ramp_in(figures: &AcceptedFigures, code: u8, ground: Ground, i: usize) ->
         Shape::Cylindrical(arch) => cylindrical_ramp(national, arch, code, ground, i),
         Shape::Abutting(roof) => abutting_ramp(national, roof, code, ground, i),
         Shape::Projection(roof) => projection_ramp(roof, ground, i),
+        Shape::Obstructed(by) => obstruction_ramp(by, ground.sk, i),
     }
 }
 
@@ -61,6 +64,7 @@ fn length(figures: &AcceptedFigures) -> u64
         Shape::Cylindrical(arch) => u64::from(arch.span),
         Shape::Abutting(roof) => u64::from(roof.b2),
         Shape::Projection(roof) => u64::from(roof.left) + u64::from(roof.right),
+        Shape::Obstructed(by) => obstruction_end(by),
     }
 }
 

@@ -4,7 +4,7 @@ ghost use Rattle.figures.specs.Bounds.{MultiSpanIn};
 ghost use Rattle.ramps.specs.Ramps.{ramp_of};
 ghost use Rattle.standard.specs.ValleyDrift.{spans_stretch, spans_count};
 
-use codes::named_valley;
+use codes::named_drift;
 use figures::Spans;
 use loads::Ground;
 use ramps::Ramp;
@@ -17,7 +17,7 @@ pub fn spans_count(count: u8, code: u8) -> usize
     requires { count ≤ 16 }
     ensures { (result ≡ spans_count count code) × (result ≤ 32) }
 {
-    match named_valley(count, code) {
+    match named_drift(count.saturating_sub(1), code) {
         Some(_) => 4,
         None => 2 * usize::from(count),
     }
@@ -29,7 +29,7 @@ pub fn spans_ramp(spans: &Spans, count: u8, code: u8, ground: Ground, i: usize) 
     requires { MultiSpanIn count spans.now × (i < spans_count count code) }
     ensures { result ≡ ramp_of (spans_stretch ground.factor ground.sk spans.now count code i) }
 {
-    match named_valley(count, code) {
+    match named_drift(count.saturating_sub(1), code) {
         Some(valley) => valley_ramp(spans, usize::from(count), valley, ground.sk, i),
         None => multi_span_ramp(spans, usize::from(count), code, ground, i),
     }

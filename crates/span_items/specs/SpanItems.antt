@@ -4,7 +4,7 @@ use Rattle.figures.specs.Spans.{no_spans}
 use Rattle.figures.specs.declared.refusal.Refusal.{Refusal}
 use Rattle.figures.specs.declared.refusal.Refusal.TheVariants.{ItemLength}
 use Rattle.figures.specs.declared.roof.Shape.{Shape}
-use Rattle.figures.specs.declared.roof.Shape.TheVariants.{Monopitch, Pitched, MultiSpan, Cylindrical, Abutting, Projection}
+use Rattle.figures.specs.declared.roof.Shape.TheVariants.{Monopitch, Pitched, MultiSpan, Cylindrical, Abutting, Projection, Obstructed}
 use Rattle.figures.specs.declared.slopes.Spans.{Spans}
 use Rattle.little_endian.specs.Numbers.{byte_at}
 use Rattle.item_forms.specs.Forms.{sized}
@@ -35,6 +35,7 @@ spans_said (MultiSpan count true) p = drifted_from p no_spans count
 spans_said (Cylindrical arch) p = no_spans
 spans_said (Abutting roof) p = no_spans
 spans_said (Projection roof) p = no_spans
+spans_said (Obstructed by) p = no_spans
 
 -- the bytes of the spans are there
 abbrev pub SpansThere : Shape → List ℕ → Type 0
@@ -45,3 +46,4 @@ SpansThere (MultiSpan count true) p = (0 < count) × (20 * count - 6 ≤ length 
 SpansThere (Cylindrical arch) p = Unit
 SpansThere (Abutting roof) p = Unit
 SpansThere (Projection roof) p = Unit
+SpansThere (Obstructed by) p = Unit

@@ -10,6 +10,7 @@ pub mod Loads
 pub mod Monopitch
 pub mod MultiSpan
 pub mod Numerators
+pub mod Obstruction
 pub mod Overhangs
 pub mod Pitched
 pub mod Projection

@@ -44,7 +44,7 @@ module _ (a b : List ℕ) (site : Site) (roof : Roof) (h : SameFor a b site.day)
   unfolding guard_answer
   same_guard n = rw same_rules
 
--- "kind 7 keeps its own limits": no national figure reaches it, and the same holds of kinds 2, 3, 4 and 9, whose definitions take none
+-- "kind 7 keeps its own limits": no national figure reaches it, and the same holds of kinds 2, 3, 4, 9, 11 and 12, whose definitions take none
 pub projection_alone :
     (m n : National) (p : ProjectionRoof) (spans : Spans) (factor sk code i : ℕ)
     → (count_in m (Projection p) code ≡ count_in n (Projection p) code)

@@ -2,17 +2,19 @@
 -- and the exact rule there. One definition a kind, dispatched here.
 use Rattle.std.specs.Prelude.{ℕ, suc, ◌+◌, ◌*◌, Bool, false, cond, not, ◌&&◌, List, ltb, eqb}
 use Rattle.figures.specs.Ranges.{within}
-use Rattle.figures.specs.RoofRules.{kind_of, span_count}
+use Rattle.figures.specs.RoofRules.{kind_of, drifts_of}
 use Rattle.figures.specs.declared.site.Site.{Site}
 use Rattle.figures.specs.declared.slopes.Spans.{Spans}
 use Rattle.figures.specs.declared.roof.Shape.{Shape}
-use Rattle.figures.specs.declared.roof.Shape.TheVariants.{Monopitch, Pitched, MultiSpan, Cylindrical, Abutting, Projection}
+use Rattle.figures.specs.declared.roof.Shape.TheVariants.{Monopitch, Pitched, MultiSpan, Cylindrical, Abutting, Projection, Obstructed}
 use Rattle.figures.specs.declared.roof.Roof.{Roof}
 use Rattle.rounding.specs.Fraction.{Fraction, Near}
 use Rattle.standard.specs.Codes.{accidental, base_code, exists_in}
 use Rattle.standard.specs.Monopitch.{monopitch}
 use Rattle.standard.specs.Pitched.{pitched}
+use Rattle.standard.specs.Drift.{drift_count, drift_ramped}
 use Rattle.standard.specs.MultiSpan.{widths}
+use Rattle.standard.specs.Obstruction.{obstruction_lengths, obstructed, obstruction_end}
 use Rattle.standard.specs.Cylindrical.{loaded_width, cylindrical, cylindrical_count}
 use Rattle.standard.specs.Abutting.{abutting, abutting_count}
 use Rattle.standard.specs.Projection.{projection_length, projection, projection_count}
@@ -37,6 +39,7 @@ count_in national (MultiSpan count drifts) code = spans_count count code
 count_in national (Cylindrical arch) code = cylindrical_count arch.rise arch.span (eqb code 1)
 count_in national (Abutting lower) code = abutting_count national lower.b2 lower.h (eqb code 1)
 count_in national (Projection p) code = projection_count p.h p.left p.right
+count_in national (Obstructed by) code = drift_count (obstruction_lengths by)
 
 -- the stretch at an index
 unfoldable pub stretch_in : National → Shape → Spans → ℕ → ℕ → ℕ → ℕ → Stretch
@@ -48,6 +51,7 @@ stretch_in national (Cylindrical arch) spans factor sk code i = cylindrical nati
 stretch_in national (Abutting lower) spans factor sk code i =
     abutting national factor sk lower.b1 lower.b2 lower.h lower.slope.slope lower.slope.guard (eqb code 1) i
 stretch_in national (Projection p) spans factor sk code i = projection factor sk p.h p.left p.right i
+stretch_in national (Obstructed by) spans factor sk code i = obstructed sk by i
 
 -- which stretches are ramps; every other is even. In a row that begins with its second stretch the index is one less
 unfoldable pub ramped_in : National → Shape → ℕ → ℕ → Bool
@@ -57,6 +61,7 @@ ramped_in national (MultiSpan count drifts) code i = spans_ramped count code i
 ramped_in national (Cylindrical arch) code i = not (eqb code 1) && within 1 4 (cond (ltb (loaded_width arch.rise arch.span) arch.span) i (suc i))
 ramped_in national (Abutting lower) code i = not (eqb code 1) && eqb i 0
 ramped_in national (Projection p) code i = within 1 2 (cond (ltb (projection_length p.h) p.left) i (suc i))
+ramped_in national (Obstructed by) code i = drift_ramped (obstruction_lengths by) i
 
 -- the roof's length in quarter millimetres
 unfoldable pub end_in : Shape → Spans → ℕ
@@ -66,10 +71,11 @@ end_in (MultiSpan count drifts) spans = 4 * widths spans (2 * count)
 end_in (Cylindrical arch) spans = 4 * arch.span
 end_in (Abutting lower) spans = 4 * lower.b2
 end_in (Projection p) spans = 4 * (p.left + p.right)
+end_in (Obstructed by) spans = 4 * obstruction_end by
 
 -- "An arrangement exists where these rules give its code to the roof in the site's situation" (document 01, words of demand 3)
 unfoldable pub exists : Site → Roof → ℕ → Bool
-exists site roof code = exists_in (kind_of roof.shape) site.situation (span_count roof.shape) code
+exists site roof code = exists_in (kind_of roof.shape) site.situation (drifts_of roof.shape) code
 
 -- the same of a roof: the number of segments, the stretch at an index, the end. A station (document 01's term) is a whole number,
 -- and lies on the roof from 0 to this end, both included

@@ -9,6 +9,7 @@ pub mod Forces
 pub mod Monopitch
 pub mod MultiSpan
 pub mod Numerators
+pub mod Obstruction
 pub mod Pitched
 pub mod Projection
 pub mod Sine

@@ -28,9 +28,9 @@ wind_num national b h sk = max (2 * h * national.low * sk) (min (2 * h * nationa
 unfoldable pub slide_num : Slope → ℕ → ℕ
 slide_num slope guard = cond (leb slope.pitch 150) 0 (slope_num slope.pitch guard * slope.width)
 
--- ls × the load at a valley with a drift, which has no coefficient
-unfoldable pub peak_num : ℕ → ℕ → ℕ → ℕ → ℕ
-peak_num h b3 ls sk = min (2 * h * ls) (min (2 * b3 * sk) (5 * sk * ls))
+-- ls × the load at the peak of an exceptional drift, which has no coefficient
+unfoldable pub peak_num : ℕ → ℕ → ℕ → ℕ → ℕ → ℕ
+peak_num times h b ls sk = min (2 * h * ls) (min (2 * b * sk) (times * sk * ls))
 
 -- 10 × sk × μ2 at a projection
 unfoldable pub projection_num : ℕ → ℕ → ℕ

@@ -4,10 +4,11 @@ use Rattle.figures.specs.Ranges.{within}
 use Rattle.figures.specs.Spans.{slope_of, valley_of}
 use Rattle.figures.specs.declared.slopes.Spans.{Spans}
 use Rattle.rounding.specs.Fraction.{Fraction}
-use Rattle.standard.specs.Codes.{names_valley, valley_named}
-use Rattle.standard.specs.Drift.{Lengths, peak, drift_row}
+use Rattle.standard.specs.Codes.{names_drift, drift_named}
+use Rattle.standard.specs.Drift.{peak, drift_row}
 use Rattle.standard.specs.MultiSpan.{multi_span, widths}
 use Rattle.standard.specs.Stretch.{Stretch}
+use Rattle.standard.specs.declared.Lengths.{Lengths}
 
 -- "The two ls are the slope widths": ls1 left of the valley, ls2 right of it
 abbrev pub left_length : Spans → ℕ → ℕ
@@ -28,18 +29,18 @@ valley_lengths spans count v =
 
 -- the load at the valley
 unfoldable pub valley_peak : ℕ → Spans → ℕ → Fraction
-valley_peak sk spans v = peak (valley_of spans v).h (valley_of spans v).b3 (left_length spans v + right_length spans v) sk
+valley_peak sk spans v = peak 5 (valley_of spans v).h (valley_of spans v).b3 (left_length spans v + right_length spans v) sk
 
 unfoldable pub valley_drift : ℕ → Spans → ℕ → ℕ → ℕ → Stretch
-valley_drift sk spans count v i = drift_row (valley_lengths spans count v) (valley_peak sk spans v) i
+valley_drift sk spans count v i = drift_row (valley_lengths spans count v) (valley_peak sk spans v) (valley_peak sk spans v) i
 
 -- a code that names a valley has its drift, any other the arrangement of kind 4
 unfoldable pub spans_stretch : ℕ → ℕ → Spans → ℕ → ℕ → ℕ → Stretch
 spans_stretch factor sk spans count code i =
-    cond (names_valley count code) (valley_drift sk spans count (valley_named code) i) (multi_span factor sk spans count (eqb code 1) i)
+    cond (names_drift (count - 1) code) (valley_drift sk spans count (drift_named code) i) (multi_span factor sk spans count (eqb code 1) i)
 
 unfoldable pub spans_count : ℕ → ℕ → ℕ
-spans_count count code = cond (names_valley count code) 4 (2 * count)
+spans_count count code = cond (names_drift (count - 1) code) 4 (2 * count)
 
 unfoldable pub spans_ramped : ℕ → ℕ → ℕ → Bool
-spans_ramped count code i = cond (names_valley count code) (within 1 2 i) (not (eqb code 1 || eqb i 0 || eqb (i + 1) (2 * count)))
+spans_ramped count code i = cond (names_drift (count - 1) code) (within 1 2 i) (not (eqb code 1 || eqb i 0 || eqb (i + 1) (2 * count)))

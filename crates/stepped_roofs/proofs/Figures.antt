@@ -11,7 +11,8 @@ use Rattle.figures.specs.declared.roof.LowerRoof.{LowerRoof}
 use Rattle.figures.specs.declared.slopes.GuardedSlope.{GuardedSlope}
 use Rattle.figures.specs.declared.refusal.Refusal.TheVariants.{UnknownKind}
 use Rattle.figures.specs.declared.roof.Shape.{Shape}
-use Rattle.figures.specs.declared.roof.Shape.TheVariants.{Monopitch, Pitched, MultiSpan, Cylindrical, Abutting, Projection}
+use Rattle.figures.specs.declared.roof.Obstruction.TheVariants.{Parapet}
+use Rattle.figures.specs.declared.roof.Shape.TheVariants.{Monopitch, Pitched, MultiSpan, Cylindrical, Abutting, Projection, Obstructed}
 use Rattle.item_forms.specs.declared.Item.TheVariants.{RoofItem, LowerItem}
 use Rattle.stepped_roofs.specs.Stepped.{is_upper, whole_width, adjacent_slope, upper_shape, stepped_shape}
 
@@ -49,8 +50,9 @@ upper_roof shape = is_upper (Ok (RoofItem shape))
 pub which_kinds :
     (upper_roof shed ∷ upper_roof hall ∷ is_upper (Ok (LowerItem (lower 0))) ∷ upper_roof (MultiSpan 2 false)
     ∷ upper_roof (Cylindrical (record { rise = 1; span = 2 })) ∷ upper_roof (abutting 1 1 1 (slope 0 1 0) false)
-    ∷ upper_roof (Projection (record { h = 1; left = 1; right = 1 })) ∷ upper_roof (MultiSpan 2 true) ∷ is_upper (Err UnknownKind) ∷ [])
-    ≡ (true ∷ true ∷ true ∷ false ∷ false ∷ false ∷ false ∷ false ∷ false ∷ [])
+    ∷ upper_roof (Projection (record { h = 1; left = 1; right = 1 })) ∷ upper_roof (MultiSpan 2 true) ∷ upper_roof (Obstructed (Parapet 1 1 1))
+    ∷ is_upper (Err UnknownKind) ∷ [])
+    ≡ (true ∷ true ∷ true ∷ false ∷ false ∷ false ∷ false ∷ false ∷ false ∷ false ∷ [])
 which_kinds = refl
 
 -- b1 up to 200,000 of kind 10, up to 100,000 of kind 6

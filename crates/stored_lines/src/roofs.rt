@@ -1,7 +1,8 @@
 // A roof by the words of a line: its kind, and its fields in the sheet's order.
 use crate::words::{read, read_two};
 use figures::{
-    AbuttingRoof, Arch, GuardedSlope, Kind, ProjectionRoof, Roof, Shape, Slope, Spans, Valley,
+    AbuttingRoof, Arch, GuardedSlope, Kind, Obstruction, ProjectionRoof, Roof, Shape, Slope, Spans,
+    Valley,
 };
 use std::str::SplitAsciiWhitespace;
 
@@ -35,6 +36,16 @@ fn read_shape(words: &mut SplitAsciiWhitespace<'_>, kind: Kind) -> Option<Shape>
             let h = read(words)?;
             let (left, right) = read_two(words)?;
             Some(Shape::Projection(ProjectionRoof { h, left, right }))
+        }
+        Kind::Parapet => {
+            let h = read(words)?;
+            let (b1, b2) = read_two(words)?;
+            Some(Shape::Obstructed(Obstruction::Parapet { h, b1, b2 }))
+        }
+        Kind::SmallProjection => {
+            let (h1, h2) = read_two(words)?;
+            let (b1, b2) = read_two(words)?;
+            Some(Shape::Obstructed(Obstruction::SmallProjection { h1, h2, b1, b2 }))
         }
         _ => None,
     }

@@ -1,5 +1,5 @@
 -- A sheet read with two stores that are alike for its job: every rule, every figure and every line of its listing is the same.
-use Prim.Native.Nat.{ℕ, zero, suc, ◌-◌}
+use Prim.Native.Nat.{ℕ, zero, suc}
 use mathlib.Core.Bool.{Bool, true, false, cond}
 use mathlib.Core.List.{List}
 use mathlib.Core.Path.{◌≡◌, refl, ap, fun_ext, ◌∙◌}

@@ -4,30 +4,17 @@
 #![tactic(auto)]
 
 ghost use Rattle.std.specs.Prelude.{◌≡◌, ℕ, suc, ◌+◌, ◌*◌, ◌≤◌, ◌<◌};
-ghost use Rattle.figures.specs.Bounds.{Within, SlopeIn, MultiSpanIn};
+ghost use Rattle.figures.specs.Bounds.{SlopeIn, MultiSpanIn};
 ghost use Rattle.figures.specs.Spans.{slope_of};
 ghost use Rattle.ramps.specs.Ramps.{ramp_of};
 ghost use Rattle.rounding.specs.Load.{alone, break_load};
-ghost use Rattle.standard.specs.Drift.{peak};
 ghost use Rattle.standard.specs.Units.{parts, largest_part};
 ghost use Rattle.standard.specs.ValleyDrift.{valley_peak, valley_drift};
 
-use figures::{Spans, Valley};
+use drift_peaks::peak_load;
+use figures::Spans;
 use ramps::Ramp;
 use slope_ramps::widths_between;
-use standard::PARTS;
-
-// The smallest of 2h, 2 × b3 × sk/ls and 5 × sk in tenths, rounded up: each limit times ls, and one division.
-fn peak_load(valley: Valley, ls: u64, sk: u64) -> u64
-    requires { Within 1 200000 ls × (sk ≤ 25000) }
-    ensures { (result ≡ break_load parts (alone (peak valley.h valley.b3 ls sk))) × (result ≤ largest_part) }
-{
-    let depth = 2 * u64::from(valley.h) * ls;
-    let length = 2 * u64::from(valley.b3) * sk;
-    let ground = 5 * sk * ls;
-    let smallest = depth.min(length).min(ground);
-    rounding::ceil_div(PARTS * smallest, ls)
-}
 
 // The load at valley v.
 #[tactic(auto, unfolding(figures::specs::Spans::slope_of, figures::specs::Spans::valley_of, standard::specs::ValleyDrift::valley_peak))]
@@ -38,7 +25,8 @@ fn valley_load(spans: &Spans, v: usize, sk: u64) -> u64
     let left = spans.slopes[2 * v + 1];
     let right = spans.slopes[2 * v + 2];
     let valley = spans.valleys[v];
-    peak_load(valley, u64::from(left.width) + u64::from(right.width), sk)
+    let ls = u64::from(left.width) + u64::from(right.width);
+    peak_load(5, valley.h, valley.b3, ls, sk)
 }
 
 // The stretch at an index of the drift in valley v: bare roof up to a ridge, the valley's two slopes, bare roof from the next

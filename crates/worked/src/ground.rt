@@ -8,7 +8,7 @@ pub fn compare_places() -> Compared {
         for zone in 0..=6 {
             for altitude in 0..=1_501 {
                 let load = map_sites::ground_load(region, zone, altitude).map_err(u8::from);
-                let expected = second_ground::ground_load(region, zone, altitude);
+                let expected = second_numbers::ground_load(region, zone, altitude);
                 count.compare(load != expected);
             }
         }

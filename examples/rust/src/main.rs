@@ -20,7 +20,7 @@ const FIELDS: usize = 6;
 /// Fills memory before it is lent.
 const MARK_BYTE: u8 = 0xA5;
 const MARK: u32 = u32::from_ne_bytes([MARK_BYTE; 4]);
-/// Shapes of persistent snow, those of exceptional falls, and a drift in each of up to 15 valleys.
+/// Shapes of persistent snow, those of exceptional falls, and a drift in each of up to 15 valleys, of which 31 is that at an obstruction too.
 const CODES: [u8; 21] = [
     1, 2, 3, 11, 12, 13, 31, 32, 33, 34, 35, 36, 37, 38, 39, 40, 41, 42, 43, 44, 45,
 ];

@@ -1,4 +1,4 @@
-use Prim.Native.Nat.{◌-◌, ◌<◌}
+use Prim.Native.Nat.{◌-◌}
 use lib.ListN.{get_or}
 use mathlib.Core.Path.{◌≡◌, ◌∙◌}
 use Rattle.sheet.proofs.Kept.{accepted_is}

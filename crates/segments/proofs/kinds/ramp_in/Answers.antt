@@ -33,3 +33,8 @@ pub projection_ramp-requires : goal.projection_ramp-requires
 unfolding count_in
 projection_ramp-requires c =
     (known_in c.args.figures.now c.in-Projection.is, known_index c.args.figures.now c.in-Projection.is _ _ c.requires)
+
+pub obstruction_ramp-requires : goal.obstruction_ramp-requires
+unfolding count_in
+obstruction_ramp-requires c =
+    (known_in c.args.figures.now c.in-Obstructed.is, c.args.ground.in_range.sk.high, known_index c.args.figures.now c.in-Obstructed.is _ _ c.requires)
