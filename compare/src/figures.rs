@@ -91,6 +91,20 @@ fn small_projection(figures: [u32; 4]) -> Roof {
     roof(&words(12, &figures)).unwrap()
 }
 
+/// The loads read at stations of a roof that ends at a position, and none behind it.
+fn assert_readings<const N: usize>(
+    made: &Arrangement<Tenths>,
+    stations: [u32; N],
+    loads: [u32; N],
+    end: u32,
+) {
+    assert_eq!(
+        stations.map(|station| made.reading(station)),
+        loads.map(Some)
+    );
+    assert_eq!(made.reading(end + 1), None);
+}
+
 fn in_situation(situation: Situation) -> Site {
     Site { situation, ..SITE }
 }
@@ -197,11 +211,7 @@ fn drifts_in_their_valleys() {
         0, 12_000, 12_001, 14_001, 19_999, 20_000, 20_001, 39_999, 40_000, 88_000,
     ];
     let loads = [0, 0, 1, 883, 3_527, 3_528, 3_528, 1, 0, 0];
-    assert_eq!(
-        stations.map(|station| made.reading(station)),
-        loads.map(Some)
-    );
-    assert_eq!(made.reading(88_001), None);
+    assert_readings(&made, stations, loads, 88_001);
 }
 
 /// Ce, Ct, Cesl and the altitude leave a drift as it is.
@@ -285,11 +295,7 @@ fn parapet_readings() {
     let made = Arrangement::<Tenths>::of(&site, &roof, 31).unwrap();
     let stations = [0, 1, 15_000, 20_000, 30_000, 59_999, 60_000, 60_001, 80_000];
     let loads = [2_667, 2_667, 2_001, 1_778, 1_334, 1, 0, 0, 0];
-    assert_eq!(
-        stations.map(|station| made.reading(station)),
-        loads.map(Some)
-    );
-    assert_eq!(made.reading(80_001), None);
+    assert_readings(&made, stations, loads, 80_001);
     let at = |roof, station| three_ways(&site, roof, 31, station);
     assert_eq!(at(&roof, 0), (2_667, 2_667, 333_333));
     assert_eq!(at(&roof, 15_000), (2_001, 2_001, 1_000_000));
@@ -339,11 +345,7 @@ fn small_projection_sides() {
         0, 4_000, 4_001, 8_000, 11_999, 12_000, 12_001, 17_000, 21_999, 22_000,
     ];
     let loads = [0, 0, 1, 400, 800, 1_500, 1_500, 750, 1, 0];
-    assert_eq!(
-        stations.map(|station| made.reading(station)),
-        loads.map(Some)
-    );
-    assert_eq!(made.reading(22_001), None);
+    assert_readings(&made, stations, loads, 22_001);
     let left = [
         [0, 10_000, 0, 1_500],
         [10_000, 18_000, 800, 0],

@@ -1,4 +1,4 @@
--- The row of a drift at an obstruction: which of its stretches are there, and each as code has it.
+-- The row of a drift at an obstruction: which of its stretches are there.
 use Prim.Native.Nat.{ℕ, suc, ◌+◌, ◌≤◌, ◌<◌}
 use mathlib.Core.Bool.{Bool, true, false, cond}
 use mathlib.Core.Path.{◌≡◌, refl, subst}
