@@ -14,8 +14,8 @@
 extern "C" {
 #endif
 
-/* A refusal is 0x80000000 + 65,536 * number + item; an index above 65,535 shows as 65,535. A count is at most 32, a load
- * at most 14,400,000 and a force at most 2,400,000, so no other answer but SNOW_NONE reaches 0x80000000. */
+/* A refusal is 0x80000000 + 65,536 * number + item; an index above 65,535 shows as 65,535. A count is at most 32, a length
+ * at most 16,384, a load at most 14,400,000 and a force at most 2,400,000, so no other answer but SNOW_NONE reaches 0x80000000. */
 #define SNOW_REFUSED 0x80000000u
 
 /* The answer where there is no such force. No refusal has this value: numbers are below 32, and its number would be
@@ -35,7 +35,7 @@ extern "C" {
  *  6 a site's field outside its range, altitude apart (a situation above 3 too); 7 an altitude above 1,500 m
  *  8 a roof's field outside its range (of kinds 4 and 9 a count of spans outside 2..16 too, of kind 12 a height above 1,000)
  *  9 a valley of kind 4 or 9 too steep; 10 a rise above half the span
- * 11 a slice shorter than four numbers a segment
+ * 11 a slice shorter than four numbers a segment, or bytes fewer than the sheet that is written there (which names item 0)
  * 12 a station past the roof's end, or an index not below the count
  * 13 an arrangement that the roof hasn't in this situation
  * 14 a map site's region outside 1..8 or its zone outside 1..5; 15 its ground load outside 100..25,000 N/m2
@@ -109,6 +109,17 @@ uint32_t snow_guard_force(const uint32_t *store, size_t numbers, const uint8_t *
  * answers its bytes. Each next roof is the lowest item left whose upper item, if it has one, is listed already.
  * Bytes behind it keep their values. Where room is less than SNOW_LIST_ROOM nothing is written and 0 is answered. */
 size_t snow_list(const uint32_t *store, size_t numbers, const uint8_t *sheet, size_t length, uint8_t *out, size_t room);
+
+/* A number of bytes that holds any sheet. */
+#define SNOW_SHEET_BYTES 16384
+
+/* Writes an accepted sheet in the one way at the front of out: its count, its pairs, then the items in their order without
+ * gaps. The sheets of one list of items give the same bytes, those of different lists different ones; the result is
+ * accepted with the same items, gets the same answer from every call on an item and the same listing, and is no longer
+ * than the sheet was. Written again it is the same. Bytes behind it keep their values.
+ * The length of the result, or a refusal (18, 1 to 10, 14 to 17, 19, then 11, item 0), which alters nothing. */
+uint32_t snow_canonical(const uint32_t *store, size_t numbers, const uint8_t *sheet, size_t length, uint8_t *out,
+                        size_t room);
 
 /* The ground load sk of a map site by Table C.1, in N/m2, or a refusal, which names item 0: 7 altitude above 1,500 m,
  * 14 region outside 1..8 or zone outside 1..5, 15 load outside 100..25,000, in this order.

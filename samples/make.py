@@ -96,6 +96,7 @@ SAW = (60.0, 25.0, 2_400, 7_600)
 COAST = [(25.0, 25.0, 6_000, 5_500), (25.0, 25.0, 5_000, 5_000), (25.0, 25.0, 5_500, 6_000)]
 DEEP = [(35.0, 45.0, 4_500, 4_000), (45.0, 35.0, 4_000, 4_500)]
 SHEDS = [monopitch(10.0, width) for width in range(3_000, 7_000, 500)]
+STEPPED = [site(1_500), stepped(4_000, 2_500, 2, RIGHT), stepped(8_000, 3_500, 3, RIGHT), HALL]
 
 SHEETS = {
     "scope": sheet(site(1_000, altitude=500), monopitch(30.0, 5_000, guard=1)),
@@ -176,7 +177,7 @@ SHEETS = {
     "desk_bytes": sheet(site(1_000), *SHEDS[:7]).ljust(2_049, b"\xee"),
     "desk_items": sheet(site(1_000), *SHEDS),
     # Kind 10
-    "stepped_hall": sheet(site(1_500), stepped(4_000, 2_500, 2, RIGHT), stepped(8_000, 3_500, 3, RIGHT), HALL),
+    "stepped_hall": sheet(*STEPPED),
     "stepped_sides": sheet(
         site(900, cesl=220, situation=1, altitude=60),
         pitched((20.0, 35.0), (9_000, 7_000), (0, 1)),
@@ -186,6 +187,9 @@ SHEETS = {
         stepped(5_000, 3_000, 4, LEFT),
         stepped(5_000, 3_000, 4, RIGHT),
     ),
+    # The same job under three layouts; canonical gives stepped_hall of each
+    "layout_gaps": sheet(*STEPPED, gap=7),
+    "layout_tail": sheet(*STEPPED).ljust(256, b"\xee"),
     # Kind 11
     "parapet": sheet(
         site(650, ce=80, cesl=230, situation=3, altitude=40),

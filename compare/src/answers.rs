@@ -2,6 +2,7 @@
 
 use second::calls::{LIST_ROOM, REFUSED};
 
+use crate::draft::MAX_SHEET;
 use crate::ffi;
 
 const CODES: [u8; 7] = [1, 2, 3, 11, 12, 13, 31];
@@ -11,13 +12,17 @@ const SLOPES: [u8; 3] = [0, 1, 2];
 const SLICE: usize = 128;
 /// Fills memory before it is lent.
 const MARK: u32 = 0xA5A5_A5A5;
+const MARK_BYTE: u8 = 0xA5;
 
 #[derive(PartialEq)]
 pub struct Answers {
-    /// Those of every call on a sheet but the listing.
+    /// Those of every call on a sheet but the listing, the desk's apart.
     answers: Vec<u32>,
+    desk: u32,
     /// The slices that arrangements were made in.
     slices: Vec<u32>,
+    /// The bytes that the sheet was written to in the one way.
+    written: Vec<u8>,
     listing: Vec<u8>,
 }
 
@@ -27,9 +32,13 @@ impl Answers {
         let mut listing = vec![0; LIST_ROOM];
         let bytes = ffi::list(store, sheet, &mut listing);
         listing.truncate(bytes);
+        let mut written = vec![MARK_BYTE; MAX_SHEET];
+        let length = ffi::canonical(store, sheet, &mut written);
         let mut all = Self {
-            answers: vec![ffi::verdict(store, sheet), ffi::desk_verdict(store, sheet)],
+            answers: vec![ffi::verdict(store, sheet), length],
+            desk: ffi::desk_verdict(store, sheet),
             slices: Vec::new(),
+            written,
             listing,
         };
         for item in 0..=count {
@@ -55,11 +64,21 @@ impl Answers {
         }
     }
 
+    /// Whether they are the same, the desk's apart, which has a ceiling on bytes that gaps count for.
+    pub fn are_those_of(&self, other: &Self) -> bool {
+        self.answers == other.answers
+            && self.slices == other.slices
+            && self.written == other.written
+            && self.listing == other.listing
+    }
+
     /// Whether every call refuses by a number that names item 0, and nothing is written.
     pub fn are_refused(&self, number: u32) -> bool {
         let refusal = REFUSED + 65_536 * number;
         self.answers.iter().all(|&answer| answer == refusal)
+            && self.desk == refusal
             && self.slices.iter().all(|&number| number == MARK)
+            && self.written.iter().all(|&byte| byte == MARK_BYTE)
             && self.listing == format!("REFUSED {number} 0\n").into_bytes()
     }
 }

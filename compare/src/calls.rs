@@ -1,6 +1,7 @@
-//! The nine calls with the same answers as the C calls of the library.
+//! The ten calls with the same answers as the C calls of the library.
 
 use crate::arrangement::Arrangement;
+use crate::canonical;
 use crate::forces;
 use crate::ground;
 use crate::listing;
@@ -58,6 +59,12 @@ pub fn list(store: &[u32], sheet: &[u8], out: &mut [u8]) -> usize {
     listing::list(store, sheet, &mut text);
     out[..text.len()].copy_from_slice(&text);
     text.len()
+}
+
+/// Writes a sheet in the one way at the front of `out`; its length, or a refusal, which alters
+/// nothing.
+pub fn canonical(store: &[u32], sheet: &[u8], out: &mut [u8]) -> u32 {
+    answer(canonical::write(store, sheet, out))
 }
 
 /// Puts a set behind the last one of a store; the new count, or a refusal, which alters nothing.

@@ -3,6 +3,7 @@
 use std::hint::black_box;
 
 use second::calls::{self, LIST_ROOM};
+use second::canonical;
 use second::store::EMPTY;
 
 use crate::before::Before;
@@ -10,6 +11,8 @@ use crate::desk::Read;
 use crate::draft;
 use crate::eaves::Eave;
 use crate::ffi;
+use crate::layouts::Layout;
+use crate::random::Random;
 use crate::stores::Placed;
 use crate::tally::{Call, Tally};
 
@@ -22,6 +25,10 @@ const FRINGE: usize = 64;
 const MAX_ROOM: usize = 200;
 /// The longest text buffer that is lent.
 pub const MAX_LIST_ROOM: usize = LIST_ROOM + 1_000;
+/// The most bytes that are lent for a sheet in the one way.
+pub const MAX_SHEET_ROOM: usize = draft::MAX_SHEET + 100;
+/// Such bytes start at any of so many places in turn.
+const SHIFTS: usize = 8;
 
 /// What a call on a sheet is lent.
 #[derive(Clone, Copy)]
@@ -47,12 +54,20 @@ pub struct Checker {
     theirs: Vec<u32>,
     text: Vec<u8>,
     buffer: Vec<u8>,
+    /// Lent to either side for a sheet in the one way, and what is there before and after a call.
+    written: [Vec<u8>; 2],
+    old: Vec<u8>,
+    /// Draws the lengths of what is lent so.
+    random: Random,
     /// Kept for the next question about the same arrangement of the sheet asked about.
     before: Option<Before>,
 }
 
 impl Checker {
-    pub fn new() -> Self {
+    pub fn new(seed: u64) -> Self {
+        let mut random = Random::new(!seed);
+        let mut old = Vec::new();
+        draft::noise(&mut random, &mut old, MAX_SHEET_ROOM + SHIFTS + 2 * FRINGE);
         Self {
             tally: Tally::new(),
             store: Placed::new(&EMPTY, 0),
@@ -61,6 +76,9 @@ impl Checker {
             theirs: vec![MARK; MAX_ROOM + 2 * FRINGE],
             text: vec![MARK_BYTE; MAX_LIST_ROOM],
             buffer: vec![MARK_BYTE; MAX_LIST_ROOM + 2 * FRINGE],
+            written: [old.clone(), old.clone()],
+            old,
+            random,
             before: None,
         }
     }
@@ -98,6 +116,7 @@ impl Checker {
             "verdict".to_string()
         });
         self.desk_verdict(asked, ours);
+        self.layout(asked);
         asked
     }
 
@@ -134,6 +153,111 @@ impl Checker {
             let read = Read::new(asked.sheet, terminal, ours);
             self.tally.read(lent(&self.store, asked.sheet), &read);
         }
+    }
+
+    /// Asks for the sheet in the one way, in lent bytes of two lengths. For an accepted one the first
+    /// is just enough, and the library's result is read again.
+    fn layout(&mut self, asked: Asked) {
+        let bytes = if asked.count > 0 {
+            let layout = Layout::of(asked.sheet, asked.count);
+            self.tally.layouts.sheet(&layout);
+            let (_, result) = self.canonical(asked, layout.bytes);
+            self.read_again(asked, &result);
+            layout.bytes
+        } else {
+            let room = self.other_room(asked.sheet.len());
+            self.canonical(asked, room);
+            asked.sheet.len()
+        };
+        let room = self.other_room(bytes);
+        self.canonical(asked, room);
+    }
+
+    /// A length beside one, as long, none, or any.
+    fn other_room(&mut self, bytes: usize) -> usize {
+        let near = self.random.below(2 * bytes + 1);
+        let any = self.random.below(MAX_SHEET_ROOM + 1);
+        let less = bytes.saturating_sub(1);
+        let rooms = [less, less, bytes, bytes + 1, 0, near, any];
+        self.random.pick(&rooms).min(MAX_SHEET_ROOM)
+    }
+
+    /// Compares the answers, the bytes that are lent and the memory around them; the library's answer
+    /// and its result, which is empty where there is none.
+    pub fn canonical(&mut self, asked: Asked, room: usize) -> (u32, Vec<u8>) {
+        let place = FRINGE + room % SHIFTS;
+        let bytes = place..place + room;
+        let [ours, theirs] = &mut self.written;
+        let answers = [
+            calls::canonical(&self.store, asked.sheet, &mut ours[bytes.clone()]),
+            ffi::canonical(&self.store, asked.sheet, &mut theirs[bytes.clone()]),
+        ];
+        black_box(theirs);
+        self.tally.layouts.room(asked, room);
+        let describe = || format!("canonical room {room}");
+        self.settle(Call::Canonical, asked, 0, answers, describe);
+        let length = match answers[1] {
+            length if length < calls::REFUSED => room.min(length as usize),
+            _ => 0,
+        };
+        let result = self.written[1][bytes][..length].to_vec();
+        let is_kept = self.gives_back(place, length, place + room + FRINGE);
+        if answers[0] == answers[1] && !is_kept {
+            let describe = || format!("{}: other bytes written", describe());
+            self.disagree(asked.sheet, describe);
+        }
+        (answers[1], result)
+    }
+
+    /// Whether both sides wrote the same result and nothing around it; all is as before then.
+    fn gives_back(&mut self, place: usize, length: usize, end: usize) -> bool {
+        let [ours, theirs] = &self.written;
+        let behind = place + length..end;
+        let is_kept = ours[..end] == theirs[..end]
+            && theirs[..place] == self.old[..place]
+            && theirs[behind.clone()] == self.old[behind];
+        for written in &mut self.written {
+            written[..end].copy_from_slice(&self.old[..end]);
+        }
+        is_kept
+    }
+
+    /// The library's result is no longer than the sheet, and the library accepts it and writes it so
+    /// again. The second calculation reads the sheet's items from it.
+    fn read_again(&mut self, asked: Asked, result: &[u8]) {
+        let store = &self.store;
+        let mut again = vec![!0; result.len()];
+        let is_same = ffi::canonical(store, result, &mut again) as usize == result.len()
+            && again == result
+            && ffi::verdict(store, result) as usize == asked.count
+            && result.len() <= asked.sheet.len()
+            && canonical::items(store, result) == canonical::items(store, asked.sheet);
+        self.tally.layouts.read_again += u64::from(is_same);
+        if !is_same {
+            self.disagree(asked.sheet, || format!("canonical gives {result:02x?}"));
+        }
+    }
+
+    /// Compares a sheet in the one way with that known beforehand; whether the library writes that.
+    pub fn written_as(&mut self, sheet: &[u8], known: &[u8]) -> bool {
+        let asked = self.verdict(sheet);
+        let (_, result) = self.canonical(asked, known.len());
+        if result != known {
+            let describe = || format!("canonical: known {known:02x?}, library {result:02x?}");
+            self.disagree(sheet, describe);
+        }
+        result == known
+    }
+
+    /// The same with the answer known beforehand, in lent bytes of a length.
+    pub fn answers_as(&mut self, asked: Asked, room: usize, known: u32) -> bool {
+        let (answer, _) = self.canonical(asked, room);
+        if answer != known {
+            let [known, answer] = [known, answer].map(show);
+            let describe = || format!("canonical room {room}: known {known}, library {answer}");
+            self.disagree(asked.sheet, describe);
+        }
+        answer == known
     }
 
     /// Compares segments, the numbers behind them and the memory around the slice.

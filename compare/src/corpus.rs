@@ -1,4 +1,4 @@
-//! The listings of the corpus and of the samples, byte for byte.
+//! The listings of the corpus and of the samples, and stored layouts in the one way, byte for byte.
 
 use std::env;
 use std::ffi::OsString;
@@ -10,9 +10,14 @@ use crate::listing;
 use crate::store::EMPTY;
 
 const DEFAULT: &str = concat!(env!("CARGO_MANIFEST_DIR"), "/../crates/trials/data/A9.bin");
+const LAYOUTS: &str = concat!(
+    env!("CARGO_MANIFEST_DIR"),
+    "/../crates/trials/data/layouts.bin"
+);
 const SAMPLES: &str = concat!(env!("CARGO_MANIFEST_DIR"), "/../samples");
-/// Records of the corpus.
+/// Records of the corpus, and those of stored layouts.
 const RECORDS: usize = 341;
+const LAYOUT_RECORDS: usize = 700;
 
 /// A sheet and the listing that it has to give.
 struct Record<'a> {
@@ -91,5 +96,23 @@ fn the_call_writes_at_the_front_alone() {
         assert_eq!(&out[..record.text.len()], record.text);
         assert!(out[record.text.len()..].iter().all(|&byte| byte == 0xA5));
         assert_eq!(calls::list(&EMPTY, record.sheet, &mut out[1..]), 0);
+    }
+}
+
+/// The text of a stored layout is the sheet in the one way, or the line of a refused sheet.
+#[test]
+fn every_layout_agrees() {
+    let bytes = fs::read(LAYOUTS).unwrap();
+    let records = records(&bytes);
+    assert_eq!(records.len(), LAYOUT_RECORDS);
+    for (place, record) in records.iter().enumerate() {
+        let mut out = vec![0xA5; record.text.len()];
+        let length = calls::canonical(&EMPTY, record.sheet, &mut out);
+        if length < calls::REFUSED {
+            assert_eq!(length as usize, record.text.len(), "layout {place}");
+            assert!(out == record.text, "layout {place}");
+        } else {
+            agrees(&format!("layout {place}"), record);
+        }
     }
 }

@@ -2,6 +2,8 @@
 //!
 //! Some map sites are too light or too heavy for their place; they are refused by 15.
 
+use std::ops::Range;
+
 use crate::random::Random;
 use crate::stores::Set;
 
@@ -765,13 +767,38 @@ pub fn sheet(random: &mut Random, items: &[Vec<u8>]) -> Vec<u8> {
 /// Puts items into a sheet that ends with the last one.
 pub fn packed(random: &mut Random, items: &[Vec<u8>]) -> Vec<u8> {
     let gaps = random.once_in(2);
-    let mut body = Vec::new();
-    let mut pairs = Vec::new();
-    for item in items {
+    laid(items, |_, body| {
         if gaps {
             let gap = random.below(6);
-            noise(random, &mut body, gap);
+            noise(random, body, gap);
         }
+    })
+}
+
+/// Puts items into a sheet with gaps of these sizes, one before each item and one behind the last,
+/// out of the front of a filling.
+pub fn with_gaps(items: &[Vec<u8>], gaps: &[usize], mut filling: &[u8]) -> Vec<u8> {
+    let mut fill = |place: usize, body: &mut Vec<u8>| {
+        let (gap, rest) = filling.split_at(gaps[place]);
+        body.extend_from_slice(gap);
+        filling = rest;
+    };
+    let mut sheet = laid(items, &mut fill);
+    fill(items.len(), &mut sheet);
+    sheet
+}
+
+/// Puts items into a sheet without gaps.
+pub fn without_gaps(items: &[Vec<u8>]) -> Vec<u8> {
+    laid(items, |_, _| ())
+}
+
+/// Puts items into a sheet, each behind what fills the gap before it.
+fn laid(items: &[Vec<u8>], mut fill: impl FnMut(usize, &mut Vec<u8>)) -> Vec<u8> {
+    let mut body = Vec::new();
+    let mut pairs = Vec::new();
+    for (place, item) in items.iter().enumerate() {
+        fill(place, &mut body);
         pairs.push((2 + 4 * items.len() + body.len(), item.len()));
         body.extend_from_slice(item);
     }
@@ -796,13 +823,18 @@ fn fill_up(random: &mut Random, sheet: &mut Vec<u8>) {
     noise(random, sheet, more);
 }
 
-/// An item of an accepted sheet.
-pub fn item_of(sheet: &[u8], index: usize) -> &[u8] {
+/// Where an item of an accepted sheet lies.
+pub fn place_of(sheet: &[u8], index: usize) -> Range<usize> {
     let [offset, length] = [2, 4].map(|at| {
         let at = at + 4 * index;
         usize::from(u16::from_le_bytes([sheet[at], sheet[at + 1]]))
     });
-    &sheet[offset..offset + length]
+    offset..offset + length
+}
+
+/// An item of an accepted sheet.
+pub fn item_of(sheet: &[u8], index: usize) -> &[u8] {
+    &sheet[place_of(sheet, index)]
 }
 
 pub fn noise(random: &mut Random, bytes: &mut Vec<u8>, count: usize) {

@@ -1,4 +1,4 @@
-//! The nine C calls of the library behind safe functions.
+//! The ten C calls of the library behind safe functions.
 
 mod raw {
     #[link(name = "terminal", kind = "static")]
@@ -60,6 +60,14 @@ mod raw {
             out: *mut u8,
             room: usize,
         ) -> usize;
+        pub fn snow_canonical(
+            store: *const u32,
+            numbers: usize,
+            sheet: *const u8,
+            length: usize,
+            out: *mut u8,
+            room: usize,
+        ) -> u32;
         pub fn snow_ground_load(region: u8, zone: u8, altitude: u16) -> u32;
     }
 }
@@ -117,6 +125,13 @@ pub fn list(store: &[u32], sheet: &[u8], out: &mut [u8]) -> usize {
     let (room, out) = (out.len(), out.as_mut_ptr());
     // SAFETY: the slices have the lengths given, and the one written to is borrowed alone.
     unsafe { raw::snow_list(store, numbers, sheet.as_ptr(), sheet.len(), out, room) }
+}
+
+pub fn canonical(store: &[u32], sheet: &[u8], out: &mut [u8]) -> u32 {
+    let (numbers, store) = (store.len(), store.as_ptr());
+    let (room, out) = (out.len(), out.as_mut_ptr());
+    // SAFETY: the slices have the lengths given, and the one written to is borrowed alone.
+    unsafe { raw::snow_canonical(store, numbers, sheet.as_ptr(), sheet.len(), out, room) }
 }
 
 pub fn ground_load(region: u8, zone: u8, altitude: u16) -> u32 {

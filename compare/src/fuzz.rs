@@ -11,6 +11,8 @@ use crate::random::Random;
 use crate::stores;
 use crate::tally::{LENGTHS, MISSING};
 
+/// One sheet in so many is asked about beside the library's result for it.
+const SAME_JOB: u64 = 32;
 /// Items of one sheet that are asked about closely.
 const CLOSE: usize = 3;
 /// The codes of the rules, those beside them, and some that never exist.
@@ -31,7 +33,7 @@ pub struct Fuzz {
 impl Fuzz {
     pub fn new(seed: u64) -> Self {
         Self {
-            checker: Checker::new(),
+            checker: Checker::new(seed),
             random: Random::new(seed),
             next_length: 0,
         }
@@ -57,6 +59,9 @@ impl Fuzz {
                 damage::sheet(&mut self.random, items)
             };
             self.ask_anywhere(&sheet);
+            if number % SAME_JOB == 0 {
+                self.same_job(&sheet);
+            }
         }
     }
 
@@ -111,6 +116,7 @@ impl Fuzz {
         let given = load.map(|load| draft::given_site(&site, load));
         let mut items = [site, draft::roof(&mut self.random)];
         let sheet = draft::sheet(&mut self.random, &items);
+        self.checker.verdict(&sheet);
         self.checker.list(&sheet, LIST_ROOM);
         if let Some(given) = given {
             items[0] = given;

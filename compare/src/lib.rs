@@ -4,6 +4,7 @@
 
 pub mod arrangement;
 pub mod calls;
+pub mod canonical;
 pub mod forces;
 pub mod ground;
 pub mod listing;

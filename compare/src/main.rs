@@ -15,6 +15,7 @@ mod ffi;
 mod fuzz;
 mod halls;
 mod jobs;
+mod layouts;
 mod measure;
 mod pairs;
 mod parapets;
@@ -36,7 +37,7 @@ use second::calls as ffi;
 const SEED: u64 = 20_031_991;
 const SHEETS: u64 = 48_000;
 /// Each with a sound store. Those up to request A7 have no dated sites, so it changes no answer.
-const SWEEPS: [fn(&mut Fuzz); 13] = [
+const SWEEPS: [fn(&mut Fuzz); 14] = [
     Fuzz::sweep,
     Fuzz::sweep_map,
     Fuzz::sweep_codes,
@@ -50,6 +51,7 @@ const SWEEPS: [fn(&mut Fuzz); 13] = [
     Fuzz::sweep_jobs,
     Fuzz::sweep_sets,
     Fuzz::sweep_parapets,
+    Fuzz::sweep_layouts,
 ];
 /// A run of the usual size is to reach this.
 const LEAST: u64 = 1_000_000;

@@ -33,6 +33,7 @@ pub fn print(seed: u64) {
     listing_times(&EMPTY, &sheets).print("listing");
     verdict_times(&EMPTY, &sheets).print("verdict");
     make_times(&sheets).print("making");
+    canonical_times(&EMPTY, &sheets).print("one way");
     for situation in [3, 1] {
         let sheets = heavy_sheets(&mut random, DRIFT_ROOF, situation);
         println!(
@@ -142,6 +143,20 @@ fn verdict_times(store: &[u32], sheets: &[Vec<u8>]) -> Times {
     };
     let second = |sheet: &[u8]| {
         black_box(calls::verdict(store, sheet));
+    };
+    alternate(sheets, 50, library, second)
+}
+
+/// The sheet in the one way, in the most bytes that a sheet may have.
+fn canonical_times(store: &[u32], sheets: &[Vec<u8>]) -> Times {
+    let [mut first, mut other] = [(); 2].map(|()| vec![0; draft::MAX_SHEET]);
+    let library = |sheet: &[u8]| {
+        black_box(ffi::canonical(store, sheet, &mut first));
+        black_box(&mut first);
+    };
+    let second = |sheet: &[u8]| {
+        black_box(calls::canonical(store, sheet, &mut other));
+        black_box(&mut other);
     };
     alternate(sheets, 50, library, second)
 }

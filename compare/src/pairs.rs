@@ -61,6 +61,7 @@ impl Fuzz {
     }
 }
 
-fn put_number(sheet: &mut [u8], at: usize, number: u16) {
+/// Writes a number of 16 bits.
+pub fn put_number(sheet: &mut [u8], at: usize, number: u16) {
     sheet[at..at + 2].copy_from_slice(&number.to_le_bytes());
 }

@@ -291,9 +291,7 @@ impl Iterator for Items<'_> {
             return None;
         }
         self.next += 1;
-        let (offset, length) = pair(self.sheet, index);
-        let bytes = &self.sheet[offset..offset + length];
-        let item = decode(bytes, index == 0, self.store);
+        let item = decode(part(self.sheet, index), index == 0, self.store);
         Some(item.map_err(|number| Refusal::new(number, index)))
     }
 
@@ -317,6 +315,12 @@ fn frame(sheet: &[u8], ceiling: Ceiling) -> Option<usize> {
 fn pair(sheet: &[u8], item: usize) -> (usize, usize) {
     let mut fields = Fields(&sheet[2 + 4 * item..]);
     (usize::from(fields.u16()), usize::from(fields.u16()))
+}
+
+/// The bytes of an item. The pairs are known to be sound.
+pub fn part(sheet: &[u8], item: usize) -> &[u8] {
+    let (offset, length) = pair(sheet, item);
+    &sheet[offset..offset + length]
 }
 
 /// An item's bytes taken apart, or the number of the first rule that they break.

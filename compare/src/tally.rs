@@ -6,17 +6,18 @@ use std::ops::AddAssign;
 use second::calls::{refusal_parts, NONE, REFUSED};
 
 use crate::before::Returned;
-use crate::check::Lent;
+use crate::check::{Asked, Lent, MAX_SHEET_ROOM};
 use crate::desk::{self, Read};
 use crate::draft;
 use crate::eaves::Eave;
 use crate::halls::{self, Step};
 use crate::jobs::{self, Job};
+use crate::layouts::{self, Layout};
 use crate::parapets::{self, Parapet, SmallProjection, ALONE, WAYS};
 use crate::stores;
 
-/// The nine calls, in the order of the header.
-pub const CALLS: [&str; 9] = [
+/// The ten calls, in the order of the header.
+pub const CALLS: [&str; 10] = [
     "add_set",
     "verdict",
     "desk_verdict",
@@ -25,6 +26,7 @@ pub const CALLS: [&str; 9] = [
     "overhang",
     "guard_force",
     "list",
+    "canonical",
     "ground_load",
 ];
 /// The highest number of a refusal.
@@ -79,6 +81,7 @@ pub enum Call {
     Overhang,
     GuardForce,
     List,
+    Canonical,
     GroundLoad,
 }
 
@@ -109,6 +112,7 @@ pub struct Tally {
     pub halls: HallTally,
     pub sets: SetTally,
     pub parapets: ParapetTally,
+    pub layouts: LayoutTally,
     disagreements: u64,
 }
 
@@ -760,6 +764,150 @@ impl ParapetTally {
     }
 }
 
+/// What was asked about the one way to write a sheet.
+#[derive(Default)]
+pub struct LayoutTally {
+    /// Accepted sheets with bytes before the items, between them and behind them, without any of
+    /// these, and as long as a sheet may be.
+    gaps: [u64; 3],
+    tight: u64,
+    longest: u64,
+    /// Ways to lend bytes for an accepted sheet.
+    rooms: [u64; layouts::ROOMS],
+    /// Those for a refused one: none, fewer than it has, and more.
+    refused_rooms: [u64; 3],
+    /// Results of the library that it reads and writes as they are, and those about which its every
+    /// call answers as about the sheet.
+    pub read_again: u64,
+    pub same_jobs: u64,
+    /// Gaps of every size that are left out.
+    pub every_gap: u64,
+    /// Layouts with the result that they must have, by the number of items.
+    pub layouts: [u64; layouts::COUNTS.len()],
+    /// Items of these, by kind, and dated sites, by kind.
+    kinds: [u64; draft::SMALL_PROJECTION as usize],
+    dated: [u64; jobs::SITES.len()],
+    /// Other items with another result: a byte changed, a kind changed, two exchanged, one fewer.
+    pub changed: u64,
+    pub kinds_changed: u64,
+    pub exchanged: u64,
+    pub fewer: u64,
+    /// Lengths lent in turn that are too short, and those that are enough.
+    pub lengths: [u64; 2],
+    /// Refusals that were known beforehand, by number, with none lent and with the most.
+    refused: [[u64; 2]; MAX_NUMBER + 1],
+}
+
+impl LayoutTally {
+    /// Counts an accepted sheet.
+    pub fn sheet(&mut self, layout: &Layout) {
+        for (count, gap) in self.gaps.iter_mut().zip(layout.gaps) {
+            *count += u64::from(gap > 0);
+        }
+        let gaps: usize = layout.gaps.iter().sum();
+        self.tight += u64::from(gaps == 0);
+        self.longest += u64::from(layout.bytes + gaps == draft::MAX_SHEET);
+    }
+
+    /// Counts the bytes that are lent for a sheet.
+    pub fn room(&mut self, asked: Asked, room: usize) {
+        if asked.count > 0 {
+            let bytes = Layout::of(asked.sheet, asked.count).bytes;
+            self.rooms[layouts::room_of(room, bytes)] += 1;
+        } else {
+            let way = match room {
+                0 => 0,
+                _ if room < asked.sheet.len() => 1,
+                _ => 2,
+            };
+            self.refused_rooms[way] += 1;
+        }
+    }
+
+    /// Counts items that are laid out in several ways.
+    pub fn items(&mut self, items: &[Vec<u8>]) {
+        for item in items {
+            self.kinds[usize::from(item[0]) - 1] += 1;
+        }
+        let on_map = items[0][0] == draft::MAP_SITE;
+        self.dated[usize::from(on_map)] += u64::from(draft::day_of(&items[0]).is_some());
+    }
+
+    /// Counts a refusal, where it is the known one.
+    pub fn refused(&mut self, number: u32, room: usize, is_known: bool) {
+        let counts = &mut self.refused[number as usize];
+        counts[0] += u64::from(is_known && room == 0);
+        counts[1] += u64::from(is_known && room == MAX_SHEET_ROOM);
+    }
+
+    pub fn is_good(&self) -> bool {
+        let met = [
+            self.tight,
+            self.longest,
+            self.read_again,
+            self.same_jobs,
+            self.changed,
+            self.kinds_changed,
+            self.exchanged,
+            self.fewer,
+        ];
+        let sheets = met.iter().chain(&self.gaps).chain(&self.kinds);
+        let rooms = self.rooms.iter().chain(&self.refused_rooms);
+        let mut counts = sheets.chain(rooms).chain(&self.dated).chain(&self.lengths);
+        counts.all(|&count| count > 0)
+            && self.every_gap == layouts::GAPS
+            && self.layouts.iter().all(|&count| count == layouts::LAYOUTS)
+            && self.rarest_refusal() > 0
+    }
+
+    /// How often the rarest refusal of a sheet or a store was known beforehand.
+    fn rarest_refusal(&self) -> u64 {
+        let counts = SHEET_REFUSALS
+            .iter()
+            .flat_map(|&number| self.refused[number]);
+        counts.min().unwrap_or(0)
+    }
+
+    fn print(&self) {
+        let ([before, between, behind], longest) = (self.gaps, self.longest);
+        println!(
+            "LAYOUTS accepted sheets with gaps before the items {before}, between {between}, behind {behind}"
+        );
+        println!("  without gaps {}, of the most bytes {longest}", self.tight);
+        let [none, less, one_less, enough, one_more, more] = self.rooms;
+        println!("  lent for them just enough {enough}, one more {one_more}, more {more}");
+        println!("    one less {one_less}, less {less}, none {none}");
+        let [none, less, more] = self.refused_rooms;
+        println!("  lent for refused ones none {none}, fewer than they have {less}, others {more}");
+        println!(
+            "  results that are their own {}, with every answer as about the sheet {}",
+            self.read_again, self.same_jobs
+        );
+        println!("  gaps of every size {}", self.every_gap);
+        let (counts, layouts) = (layouts::COUNTS, self.layouts);
+        println!("  layouts of {counts:?} items {layouts:?}");
+        let [given, map] = self.dated;
+        println!(
+            "    dated sites of kind 1 {given}, of kind 8 {map}, the rarest of {} kinds {}",
+            self.kinds.len(),
+            self.kinds.iter().min().unwrap_or(&0)
+        );
+        let (changed, kinds) = (self.changed, self.kinds_changed);
+        println!(
+            "  other results with a byte changed {changed}, with kind 7 as 11 or 11 as 7 {kinds}"
+        );
+        let (exchanged, fewer) = (self.exchanged, self.fewer);
+        println!("    with two items exchanged {exchanged}, with one fewer {fewer}");
+        let [few, enough] = self.lengths;
+        println!("  lengths in turn too short {few}, enough {enough}");
+        println!(
+            "  refusals known beforehand, each of {} at least {} times",
+            SHEET_REFUSALS.len(),
+            self.rarest_refusal()
+        );
+    }
+}
+
 /// The sums of a table by row and by column.
 fn sums<const N: usize>(table: &[[u64; N]; N]) -> [[u64; N]; 2] {
     let columns = |column: usize| table.iter().map(|row| row[column]).sum();
@@ -792,6 +940,7 @@ impl Tally {
             halls: HallTally::default(),
             sets: SetTally::default(),
             parapets: ParapetTally::default(),
+            layouts: LayoutTally::default(),
             disagreements: 0,
         }
     }
@@ -872,8 +1021,8 @@ impl Tally {
     /// No disagreement, and every refusal, every slice length, every missing index, every place of
     /// the map, every situation, every valley, every number of a pair, every drop, at either eave an
     /// overhang by the other slope's load, every edge of the desk's ceiling, either side of every
-    /// kind of upper item, every length of a circle, and of national figures and of parapets what
-    /// `SetTally` and `ParapetTally` count was met.
+    /// kind of upper item, every length of a circle, and of national figures, of parapets and of
+    /// layouts what `SetTally`, `ParapetTally` and `LayoutTally` count was met.
     pub fn is_good(&self) -> bool {
         self.agrees()
             && self.refused[1..].iter().all(|&count| count > 0)
@@ -891,6 +1040,7 @@ impl Tally {
             && self.halls.is_good()
             && self.sets.is_good()
             && self.parapets.is_good()
+            && self.layouts.is_good()
     }
 
     pub fn print(&self) {
@@ -918,6 +1068,7 @@ impl Tally {
         self.halls.print();
         self.sets.print();
         self.parapets.print();
+        self.layouts.print();
         self.print_lengths();
         self.print_missing();
         println!("DISAGREEMENTS {}", self.disagreements);

@@ -10,11 +10,11 @@
 
 #include "wuqodlisa.h"
 
-enum { STACK = 1 << 20, PAINT = 0xA5, SHEET = 16384, CALLS = 10, SETS = 32, FIELDS = 6 };
+enum { STACK = 1 << 20, PAINT = 0xA5, SHEET = 16384, CALLS = 11, SETS = 32, FIELDS = 6 };
 
 static const char *const names[CALLS] = {
     "nothing", "snow_verdict", "snow_make", "snow_load", "snow_overhang", "snow_guard_force", "snow_list",
-    "snow_ground_load", "snow_desk_verdict", "snow_add_set"};
+    "snow_ground_load", "snow_desk_verdict", "snow_add_set", "snow_canonical"};
 
 static unsigned char stack[STACK] __attribute__((aligned(4096)));
 static uint32_t store[SNOW_STORE_NUMBERS];
@@ -47,6 +47,7 @@ static void *run(void *argument)
     case 7: snow_ground_load(job->code, (uint8_t)job->item, (uint16_t)job->station); break;
     case 8: snow_desk_verdict(store, SNOW_STORE_NUMBERS, sheet, length); break;
     case 9: snow_add_set(store, SNOW_STORE_NUMBERS, set, job->item); break;
+    case 10: snow_canonical(store, SNOW_STORE_NUMBERS, sheet, length, out, sizeof out); break;
     default: break;
     }
     return NULL;
@@ -81,6 +82,7 @@ static void measure_sheet(void)
     measure((struct job){1, 0, 0, 0});
     measure((struct job){6, 0, 0, 0});
     measure((struct job){8, 0, 0, 0});
+    measure((struct job){10, 0, 0, 0});
     for (size_t item = 0; item <= items; item++) {
         for (size_t k = 0; k < sizeof codes; k++) {
             measure((struct job){2, item, codes[k], 0});

@@ -284,6 +284,28 @@ static void ask_desk(const struct sheet *sheet, uint32_t verdict)
     check(inside ? answer == verdict : refused_with(answer, 1, 0), "the desk reads otherwise", 0);
 }
 
+/* Writes the sheet in the one way, and again. A refusal is the verdict's; a byte of room too little alters nothing. */
+static void ask_canonical(const struct sheet *sheet, uint32_t verdict)
+{
+    static uint8_t once[SNOW_SHEET_BYTES + 1], again[SNOW_SHEET_BYTES];
+    memset(once, MARK, sizeof once);
+    memset(again, MARK, sizeof again);
+    uint32_t answer =
+        snow_canonical(SNOW_EMPTY_STORE, SNOW_STORE_NUMBERS, sheet->bytes, sheet->length, once, sizeof once);
+    printf("CANONICAL: ");
+    print_answer(answer, "bytes");
+    if (decode(verdict).number != 0) {
+        check(answer == verdict && is_marked(once, sizeof once), "a refused sheet is written", 0);
+        return;
+    }
+    bool kept = answer <= sheet->length && is_marked(once + answer, sizeof once - answer);
+    check(kept, "snow_canonical altered more than its result", 0);
+    uint32_t short_of = snow_canonical(SNOW_EMPTY_STORE, SNOW_STORE_NUMBERS, once, answer, again, answer - 1);
+    check(refused_with(short_of, 11, 0) && is_marked(again, sizeof again), "a sheet in too little room", 0);
+    uint32_t same = snow_canonical(SNOW_EMPTY_STORE, SNOW_STORE_NUMBERS, once, answer, again, answer);
+    check(same == answer && memcmp(once, again, answer) == 0, "written again it is another sheet", 0);
+}
+
 static void ask(const struct sheet *sheet)
 {
     size_t lines = 1; /* the header, or the line REFUSED */
@@ -291,6 +313,7 @@ static void ask(const struct sheet *sheet)
     printf("VERDICT: ");
     print_answer(count, "items");
     ask_desk(sheet, count);
+    ask_canonical(sheet, count);
     if (decode(count).number != 0) {
         check_refused(sheet, 1, count);
     } else {

@@ -29,9 +29,9 @@ pub fn number(answer: Result<u32, Refused>) -> u32
     answer.unwrap_or_else(refusal)
 }
 
-// A count of items or of segments, or a refusal.
+// A count of items, of segments or of bytes, or a refusal.
 pub fn count(answer: Result<usize, Refused>) -> u32
-    requires { ForOk answer (λ n. n ≤ 32) }
+    requires { ForOk answer (λ n. n ≤ 16384) }
     ensures { result ≡ answer_code (answer_means answer) }
 {
     number(answer.map(|n| n as u32))

@@ -4,6 +4,9 @@
 ghost use Rattle.std.specs.Prelude.{◌≡◌};
 ghost use Rattle.ceilings.specs.Ceilings.{ceiling_of, fits};
 
+// A sheet's most bytes.
+pub const SHEET_BYTES: usize = 16_384;
+
 // The callers of the reader: the terminals and the quote desk.
 #[derive(Clone, Copy, Debug, PartialEq, Eq)]
 pub enum Caller {
@@ -26,7 +29,7 @@ impl Caller {
         match self {
             Caller::Terminal => Ceiling {
                 items: 32,
-                bytes: 16_384,
+                bytes: SHEET_BYTES,
             },
             Caller::Desk => Ceiling {
                 items: 8,

@@ -13,7 +13,7 @@ use Rattle.sheet.specs.Sheet.{sheet_verdict}
 use Rattle.sheet_figures.specs.Find.{sheet_national}
 use Rattle.sheet_rows.specs.SheetRows.{roofs_rows}
 use Rattle.sheet_rows.proofs.Accepted.{all_short}
-use Rattle.text.proofs.Writing.{short, in_place, room}
+use Rattle.text.proofs.Writing.{short, at_front, room}
 use Rattle.text.specs.Written.{Wrote}
 use Rattle.text.specs.declared.writer.Writer.{Writer}
 use Rattle.upper_items.specs.Uppers.{roof_order}
@@ -45,12 +45,11 @@ module _ (store sheet old : List ℕ) where
   unfolding listed bytes_after
   all_written {a} {b} f z h x =
       let t = le-ltb (length old) list_room h in
-      let k : b.at ≡ length (listing store sheet) = omega (arith, x.end, z) in
       let s : length a.bytes.now ≡ length old = ap length f in
-      let p = in_place x (omega (arith, listing_short store sheet)) in (
-        rw t k,
+      let w = at_front (listing store sheet) old x f z (omega (arith, listing_short store sheet)) in (
+        rw t w.0,
         (
-          rw t (rw (f, z, k) at p),
-          omega (arith, k, listing_short store sheet, room x),
+          rw t (rw w.0 at w.1),
+          omega (arith, w.0, listing_short store sheet, room x),
         ),
       )

@@ -1,3 +1,4 @@
+pub mod Alike
 pub mod Bounds
 pub mod MapSites
 pub mod Worked

@@ -25,10 +25,7 @@ fn list_any(store: &[u32], sheet: &[u8], numbers: &mut [u32; NUMBERS], out: &mut
             put_header(out);
             list_roofs(out, sheet, numbers);
         }
-        Err(refused) => {
-            let number = u8::from(refused.refusal);
-            put_refused(out, u32::from(number), refused.item as u32);
-        }
+        Err(refused) => put_refused(out, u8::from(refused.refusal), refused.item),
     }
 }
 

@@ -1,6 +1,6 @@
 -- The items of a sheet in turn.
-use Prim.Native.Nat.{ℕ, suc, ◌+◌, ◌-◌, ◌≤◌, ◌<◌}
-use mathlib.Core.Path.{◌≡◌}
+use Prim.Native.Nat.{ℕ, zero, suc, ◌+◌, ◌-◌, ◌≤◌, ◌<◌}
+use mathlib.Core.Path.{◌≡◌, refl}
 use borrow.Author.Tests.{eq-eqb, ne_eqb}
 use native.Mathlib.Numerals.{add-one}
 use native.Mathlib.Omega.{arith}
@@ -25,3 +25,18 @@ module _ (number : ℕ → ℕ) (m i n : ℕ) where
   turn_end h =
       let e : n - i ≡ 0 = omega arith in
       rw e
+
+-- a walk asks only for the numbers that it passes
+pub same_walk :
+    (f g : ℕ → ℕ) (m i k : ℕ) → ((j : ℕ) → i ≤ j → j < i + k → f j ≡ g j) → in_turn f m i k ≡ in_turn g m i k
+unfolding in_turn
+same_walk f g m i zero h = refl
+same_walk f g m i (suc k) h =
+    let next = same_walk f g m (suc i) k (λ j a b. h j (omega arith) (omega arith)) in
+    rw (h i (omega arith) (omega arith), next)
+
+-- a walk over items that break no rule is accepted
+pub walked : (number : ℕ → ℕ) (m i k : ℕ) → ((j : ℕ) → i ≤ j → j < i + k → number j ≡ 0) → in_turn number m i k ≡ accepted m
+unfolding in_turn
+walked number m i zero h = refl
+walked number m i (suc k) h = rw (h i (omega arith) (omega arith)) (walked number m (suc i) k (λ j a b. h j (omega arith) (omega arith)))

@@ -1,5 +1,5 @@
 // The two lines of words.
-ghost use Rattle.std.specs.Prelude.{◌+◌, ◌≤◌, length};
+ghost use Rattle.std.specs.Prelude.{◌+◌, ◌≤◌, ◌<◌, length};
 ghost use Rattle.plain_rows.specs.Words.{header, refused_row};
 ghost use Rattle.text.specs.Written.{Wrote};
 
@@ -14,10 +14,12 @@ pub fn put_header(out: &mut Writer)
 }
 
 // Writes the line of a refused sheet.
-pub fn put_refused(out: &mut Writer, number: u32, item: u32)
-    requires { out.old.at + 30 ≤ length out.old.bytes.now }
+pub fn put_refused(out: &mut Writer, number: u8, item: usize)
+    requires { (out.old.at + 30 ≤ length out.old.bytes.now) × (item < 4294967296) }
     ensures { Wrote out.old (refused_row number item) out.new }
 {
+    let number = u32::from(number);
+    let item = item as u32;
     out.put_bytes(b"REFUSED ");
     out.put_row(&[number, item]);
 }

@@ -56,6 +56,7 @@ store_named false n k x j e = let z : 0 ≡ j = cc in sym z
 -- what an accepted sheet keeps
 pub record SheetKept (store : List ℕ) (ceiling : Ceiling) (s : List ℕ) (n : ℕ) : Type 0 where
   pub accepted_store : store_refusal store ≡ 0
+  pub passed : pairs_verdict ceiling s ≡ accepted n
   pub pairs : PairsKept ceiling s n
   pub sound : (i : ℕ) → i < n → item_number store s i ≡ 0
   pub some : (i : ℕ) → i < n → 1 ≤ size s i
@@ -75,6 +76,7 @@ sheet_kept store ceiling s n e =
     let sound : (i : ℕ) → i < n → item_number store s i ≡ 0 = λ i h. w.1 i (omega arith) (omega (arith, u.0)) in
     record {
       accepted_store = store_passed store v.0 v.1;
+      passed = a.1 ∙ ap accepted (sym same);
       pairs = rw same p;
       sound = sound;
       some = λ i h. some store s i (sound i h);

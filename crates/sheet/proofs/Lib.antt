@@ -1,3 +1,4 @@
+pub mod Alike
 pub mod Figures
 pub mod Kept
 pub mod Readers

@@ -1,2 +1,3 @@
+pub mod Alike
 pub mod MapSites
 pub mod Sound

@@ -4,6 +4,7 @@
 
 ghost use Rattle.std.specs.Prelude.{◌≡◌, ◌≤◌, length};
 ghost use Rattle.added_sets.specs.Adding.{add_answer, store_after};
+ghost use Rattle.canonical_sheets.specs.Canonical.{canonical_answer, canonical_after};
 ghost use Rattle.listing.specs.Listing.{listed, bytes_after};
 ghost use Rattle.figures.specs.Refusal.{numbered};
 ghost use Rattle.sheet_figures.specs.Find.{found};
@@ -85,6 +86,15 @@ pub extern "C" fn snow_list(store: &[u32], sheet: &[u8], out: &mut [u8]) -> usiz
 {
     let mut numbers = [0; listing::NUMBERS];
     listing::list(store, sheet, &mut numbers, out)
+}
+
+// The length of a sheet written in the one way, which is at the front of the lent bytes; or a refusal, which alters nothing.
+#[unsafe(no_mangle)]
+pub extern "C" fn snow_canonical(store: &[u32], sheet: &[u8], out: &mut [u8]) -> u32
+    ensures value { result ≡ answer_code (canonical_answer store.now sheet.now (length out.old)) }
+    ensures out_after { out.new ≡ canonical_after (canonical_answer store.now sheet.now (length out.old)) sheet.now out.old }
+{
+    count(canonical_sheets::write(store, sheet, out))
 }
 
 // The ground load of a region, a zone and an altitude by the map, or a refusal.

@@ -52,6 +52,12 @@ pub in_place :
 in_place {a} {b} {text} w h =
     w.bytes ∙ (sets-eq text a.bytes.now a.at h ∙ ap (λ (n : ℕ). take a.at a.bytes.now ++ text ++ drop n a.bytes.now) (sym w.end))
 
+-- a text at the front of the bytes stands there, with their old contents behind it
+pub at_front :
+    {a b : Writer} (text old : List ℕ) → Wrote a text b → a.bytes.now ≡ old → a.at ≡ 0 → length text ≤ length old
+    → (b.at ≡ length text) × (b.bytes.now ≡ text ++ drop b.at old)
+at_front text old w f z h = (omega (arith, w.end, z), rw (f, z) at (in_place w (rw (f, z) (omega arith))))
+
 -- the number of digits does not matter where it is enough
 pub fuel : (f n : ℕ) → n < 10 ^ suc f → decimal_in (suc f) n ≡ decimal_in f n
 fuel zero n h =

@@ -1,8 +1,10 @@
 // Reads stored sheets, sound and damaged, and holds the library's listing of each against the text stored with it, and the
-// quote desk's reading of it against a terminal's.
+// quote desk's reading of it against a terminal's; then stored layouts, and holds what the library writes in the one way against
+// the text stored with each.
 #![tactic(auto)]
 
 mod desk;
+mod layouts;
 mod listed;
 mod records;
 mod report;
@@ -40,11 +42,14 @@ fn compare(rt: &impl Print, bytes: &[u8], room: &mut [u8]) -> io::Result<()>
     println!(rt; "{totals}")
 }
 
-// Reads the file that the argument names, or says why it can't.
+// Reads the files that the two arguments name, or says why it can't.
 fn main(rt: HostRuntime) -> Result<()> {
     let mut path_room = [0u8; PATH_ROOM];
     let path = argument(&rt, 1, &mut path_room).context("file name")?;
     let bytes = fs::read(&rt, path).context(path)?;
     let mut room = vec![in rt.alloc(); 0u8; LIST_ROOM]?;
-    compare(&rt, &bytes, &mut room).context("write")
+    compare(&rt, &bytes, &mut room).context("write")?;
+    let path = argument(&rt, 2, &mut path_room).context("file name")?;
+    let bytes = fs::read(&rt, path).context(path)?;
+    layouts::compare(&rt, &bytes).context("write")
 }

@@ -1,5 +1,5 @@
 -- The rules on upper items, as the code finds them; a sheet without lower roofs breaks none of them.
-use Prim.Native.Nat.{ℕ, zero, suc, ◌+◌, ◌-◌, ◌≤◌, ◌<◌}
+use Prim.Native.Nat.{ℕ, ◌-◌, ◌<◌}
 use mathlib.Core.Bool.{Bool, true, false, cond}
 use mathlib.Core.List.{List}
 use mathlib.Core.Path.{◌≡◌, refl, sym, ap, ◌∙◌}
@@ -7,18 +7,13 @@ use lib.Dec.{ltb}
 use native.Mathlib.Omega.{arith}
 use Rattle.figures.specs.Rules.{refused_if}
 use Rattle.pairs.specs.Pairs.{accepted, refused, in_turn}
+use Rattle.pairs.proofs.Walks.{walked}
 use Rattle.circles.specs.Following.{upper_in, comes_back}
 use Rattle.circles.proofs.Turns.{none_met}
 use Rattle.item_forms.specs.Forms.{is_lower}
 use Rattle.upper_items.specs.Uppers.{item_at, upper_index, upper, stepped_in}
 use Rattle.upper_items.proofs.Lowers.{no_upper, none_stepped, none_above}
 use Rattle.upper_rules.specs.UpperRules.{upper_number, circle_number, uppers_verdict}
-
--- a walk over items that break no rule is accepted
-walked : (number : ℕ → ℕ) (m i k : ℕ) → ((j : ℕ) → i ≤ j → j < i + k → number j ≡ 0) → in_turn number m i k ≡ accepted m
-unfolding in_turn
-walked number m i zero h = refl
-walked number m i (suc k) h = rw (h i (omega arith) (omega arith)) (walked number m (suc i) k (λ j a b. h j (omega arith) (omega arith)))
 
 module _ (s : List ℕ) (n : ℕ) where
   not_lower : (i : ℕ) → is_lower (item_at s i) ≡ false → upper_number s n i ≡ 0

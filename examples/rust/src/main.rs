@@ -11,7 +11,7 @@ use std::fs;
 use std::io::{self, Write};
 use std::process::ExitCode;
 
-use snow::{Answer, EMPTY_STORE, STORE_NUMBERS};
+use snow::{Answer, EMPTY_STORE, SHEET_BYTES, STORE_NUMBERS};
 
 /// 32 segments of four numbers, the most there are.
 const SLICE: usize = 128;
@@ -49,6 +49,10 @@ const OFF_MAP: [(Place, u32); 8] = [
     ((8, 1, 0), 15),
     ((2, 5, 1_500), 15),
 ];
+
+fn is_marked(memory: &[u8]) -> bool {
+    memory.iter().all(|&byte| byte == MARK_BYTE)
+}
 
 /// A sheet, and the checks on what the calls answer about it.
 struct Caller {
@@ -274,7 +278,7 @@ impl Caller {
     fn list(&mut self) -> io::Result<usize> {
         let mut text = vec![MARK_BYTE; snow::LIST_ROOM];
         let bytes = snow::list(&EMPTY_STORE, &self.sheet, &mut text[..snow::LIST_ROOM - 1]);
-        let kept = text.iter().all(|&byte| byte == MARK_BYTE);
+        let kept = is_marked(&text);
         self.check(bytes == 0 && kept, "a listing in too little room", 0);
         let bytes = snow::list(&EMPTY_STORE, &self.sheet, &mut text);
         io::stdout().write_all(&text[..bytes])?;
@@ -299,11 +303,34 @@ impl Caller {
         self.check(answer == expected, "the desk reads otherwise", 0);
     }
 
+    /// Writes the sheet in the one way, and again. A refusal is the verdict's; a byte of room too little alters nothing.
+    fn ask_canonical(&mut self, verdict: Answer) {
+        let mut once = [MARK_BYTE; SHEET_BYTES + 1];
+        let answer = snow::canonical(&EMPTY_STORE, &self.sheet, &mut once);
+        println!("CANONICAL: {}", answer.with_unit("bytes"));
+        let Some(length) = answer.value().filter(|_| verdict.value().is_some()) else {
+            let refused = answer == verdict && is_marked(&once);
+            self.check(refused, "a refused sheet is written", 0);
+            return;
+        };
+        let (written, behind) = once.split_at(length as usize);
+        let kept = written.len() <= self.sheet.len() && is_marked(behind);
+        self.check(kept, "snow_canonical altered more than its result", 0);
+        let mut again = vec![MARK_BYTE; written.len()];
+        let short_of = snow::canonical(&EMPTY_STORE, written, &mut again[1..]);
+        let refused = short_of == Answer::refused(11, 0) && is_marked(&again);
+        self.check(refused, "a sheet in too little room", 0);
+        let same = snow::canonical(&EMPTY_STORE, written, &mut again);
+        let same = same == answer && again == written;
+        self.check(same, "written again it is another sheet", 0);
+    }
+
     fn ask(&mut self) -> io::Result<()> {
         let mut lines = 1; // the header, or the line REFUSED
         let verdict = snow::verdict(&EMPTY_STORE, &self.sheet);
         println!("VERDICT: {}", verdict.with_unit("items"));
         self.ask_desk(verdict);
+        self.ask_canonical(verdict);
         if let Some(count) = verdict.value() {
             let count = count as usize;
             for item in 1..count {

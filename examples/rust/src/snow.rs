@@ -1,7 +1,10 @@
-//! The nine calls as safe functions.
+//! The ten calls as safe functions.
 
 /// A number of bytes that holds the listing of any sheet.
 pub const LIST_ROOM: usize = 267_373;
+
+/// A number of bytes that holds any sheet.
+pub const SHEET_BYTES: usize = 16_384;
 
 /// Numbers of a store of national figures: the count of its sets, then six numbers a set.
 pub const STORE_NUMBERS: usize = 193;
@@ -122,6 +125,14 @@ mod ffi {
             out: *mut u8,
             room: usize,
         ) -> usize;
+        pub fn snow_canonical(
+            store: *const u32,
+            numbers: usize,
+            sheet: *const u8,
+            length: usize,
+            out: *mut u8,
+            room: usize,
+        ) -> u32;
         pub fn snow_ground_load(region: u8, zone: u8, altitude: u16) -> u32;
     }
 }
@@ -186,6 +197,15 @@ pub fn list(store: &[u32], sheet: &[u8], out: &mut [u8]) -> usize {
     let (room, out) = (out.len(), out.as_mut_ptr());
     // SAFETY: the slices have the lengths given, and the one written to is borrowed alone.
     unsafe { ffi::snow_list(store, numbers, sheet.as_ptr(), sheet.len(), out, room) }
+}
+
+/// Writes a sheet in the one way at the front of `out`; the length of the result.
+pub fn canonical(store: &[u32], sheet: &[u8], out: &mut [u8]) -> Answer {
+    let (numbers, store) = (store.len(), store.as_ptr());
+    let (length, sheet) = (sheet.len(), sheet.as_ptr());
+    let (room, out) = (out.len(), out.as_mut_ptr());
+    // SAFETY: the slices have the lengths given, and the one written to is borrowed alone.
+    unsafe { ffi::snow_canonical(store, numbers, sheet, length, out, room) }.into()
 }
 
 /// The ground load sk of a map site, in N/m².

@@ -1,0 +1,6 @@
+pub mod Acceptance
+pub mod Answers
+pub mod Figures
+pub mod Growing
+pub mod ReadBack
+pub mod Same

@@ -1,0 +1,4 @@
+pub mod Alike
+pub mod Sheets
+pub mod Unchanged
+pub mod Written

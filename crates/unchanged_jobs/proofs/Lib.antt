@@ -1,2 +1,0 @@
-pub mod Sheets
-pub mod Unchanged
