@@ -51,5 +51,6 @@ pub eleven_last :
     (canonical_answer [] spread 0 ∷ canonical_answer empty spread 0 ∷ canonical_answer empty site_alone 19 ∷ canonical_answer empty site_alone 20 ∷ [])
     ≡ (refused 18 0 ∷ refused 4 0 ∷ refused 11 0 ∷ accepted 20 ∷ [])
 unfolding canonical_answer canonical sheet_of items items_from together pairs_from sheet_verdict store_verdict store_refusal sets_sound rules_verdict pairs_verdict in_turn pair_number
-    item_number uppers_verdict upper_number circle_number comes_back meets upper content by_kind site_item cylindrical_item day_at job_refusal day_refusal set_in_use site_data_refusal site_refusal first_of
+    item_number uppers_verdict upper_number circle_number comes_back meets upper content by_kind
+    site_item cylindrical_item day_at job_refusal day_refusal set_in_use site_data_refusal site_refusal first_of
 eleven_last = refl

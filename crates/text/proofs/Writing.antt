@@ -141,7 +141,8 @@ counted_above k m (suc n) e h g s = sym (counted k (suc n) (omega arith) (omega 
 -- a text that is copied into a part of the bytes, and digits that end at a place
 pub copied : (b new text : List ℕ) (at k : ℕ) → new ≡ text → k ≡ length text → at + length text ≤ length b → put_mid at k b new ≡ sets b at text
 copied b new text at k e l h =
-    put_mid-paste at k b new text (length text) e (sym l) refl ∙ (paste_all b at text (length text) refl ∙ (sym (append_assoc (take at b) text (drop (at + length text) b)) ∙ sym (sets-eq text b at h)))
+    let behind = drop (at + length text) b in
+    put_mid-paste at k b new text (length text) e (sym l) refl ∙ (paste_all b at text (length text) refl ∙ (sym (append_assoc (take at b) text behind) ∙ sym (sets-eq text b at h)))
 
 pub ended :
     (b c text : List ℕ) (at end r : ℕ) → r + length text ≡ end → end ≡ at + length text → end ≤ length b
