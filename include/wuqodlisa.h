@@ -35,8 +35,9 @@ extern "C" {
  *  6 a site's field outside its range, altitude apart (a situation above 3 too); 7 an altitude above 1,500 m
  *  8 a roof's field outside its range (of kinds 4 and 9 a count of spans outside 2..16 too, of kind 12 a height above 1,000)
  *  9 a valley of kind 4 or 9 too steep; 10 a rise above half the span
- * 11 a slice shorter than four numbers a segment, or bytes fewer than the sheet that is written there (which names item 0)
- * 12 a station past the roof's end, or an index not below the count
+ * 11 a slice shorter than four numbers a segment (in the call for one segment: under four numbers), or bytes fewer than the
+ *    sheet that is written there (which names item 0)
+ * 12 a station past the roof's end, or an index not below the count, of an item or of a segment
  * 13 an arrangement that the roof hasn't in this situation
  * 14 a map site's region outside 1..8 or its zone outside 1..5; 15 its ground load outside 100..25,000 N/m2
  * 16 a roof of kind 10 whose upper item is not there or not of kind 2, 3 or 10
@@ -88,6 +89,21 @@ uint32_t snow_desk_verdict(const uint32_t *store, size_t numbers, const uint8_t 
  * site, item 0, has no arrangement: 13. */
 uint32_t snow_make(const uint32_t *store, size_t numbers, const uint8_t *sheet, size_t length, size_t item, uint8_t code,
                    uint32_t *out, size_t room);
+
+/* For a board that has space for one segment alone: the count of an item's segments, and one segment by its index.
+ *
+ * The count of segments of an item's arrangement, at most 32, or a refusal (18, 1 to 10, 14 to 17, 19, 12 for the item's
+ * index, 13). It is what snow_make answers in a slice that is long enough. */
+uint32_t snow_segment_count(const uint32_t *store, size_t numbers, const uint8_t *sheet, size_t length, size_t item,
+                            uint8_t code);
+
+/* Writes the segment at an index, counted from 0 at the roof's left end, to the first four numbers of out: start, end,
+ * load, load. Numbers behind the four keep their values. The segments of all indexes below the count, in turn, are the
+ * numbers that snow_make writes.
+ * 4, or a refusal (18, 1 to 10, 14 to 17, 19, 12 for the item's index, 13, 12 for a segment's index that isn't below the
+ * count, 11 for a room under four numbers), which alters nothing. */
+uint32_t snow_segment(const uint32_t *store, size_t numbers, const uint8_t *sheet, size_t length, size_t item,
+                      uint8_t code, size_t index, uint32_t *out, size_t room);
 
 /* The load at a station, in whole N/m2, never below the exact rule and less than 1.2 N/m2 above it, or a refusal (18,
  * 1 to 10, 14 to 17, 19, 12 for the index, 13, 12 for the station). */

@@ -94,6 +94,7 @@ LEFT, RIGHT = 0, 1
 HALL = pitched((20.0, 40.0), (9_000, 6_000))
 SAW = (60.0, 25.0, 2_400, 7_600)
 COAST = [(25.0, 25.0, 6_000, 5_500), (25.0, 25.0, 5_000, 5_000), (25.0, 25.0, 5_500, 6_000)]
+ROW = [(18.0 + span / 2, 30.0 - span / 2, 4_000 + 110 * span, 6_000 - 130 * span) for span in range(16)]
 DEEP = [(35.0, 45.0, 4_500, 4_000), (45.0, 35.0, 4_000, 4_500)]
 SHEDS = [monopitch(10.0, width) for width in range(3_000, 7_000, 500)]
 STEPPED = [site(1_500), stepped(4_000, 2_500, 2, RIGHT), stepped(8_000, 3_500, 3, RIGHT), HALL]
@@ -171,6 +172,10 @@ SHEETS = {
         map_site(8, 3, ct=90, situation=2, altitude=60),
         drift_roof(DEEP, (3_000, 40_000)),
         multi_span(*DEEP),
+    ),
+    "drift_sixteen": sheet(
+        site(720, cesl=210, situation=3, altitude=30),
+        drift_roof(ROW, *[(600 + 120 * valley, 12_000 + 1_500 * valley) for valley in range(15)]),
     ),
     # The quote desk's ceiling: 8 items, 2,048 bytes
     "desk_full": sheet(site(1_000), *SHEDS[:7]).ljust(2_048, b"\xee"),

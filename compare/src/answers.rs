@@ -8,6 +8,8 @@ use crate::ffi;
 const CODES: [u8; 7] = [1, 2, 3, 11, 12, 13, 31];
 const STATIONS: [u32; 6] = [0, 1, 4_000, 22_222, 60_001, u32::MAX];
 const SLOPES: [u8; 3] = [0, 1, 2];
+/// Indexes of single segments: those that most arrangements have, and those that few or none have.
+const INDEXES: [usize; 5] = [0, 1, 3, 31, usize::MAX];
 /// Numbers of the longest arrangement.
 const SLICE: usize = 128;
 /// Fills memory before it is lent.
@@ -19,7 +21,7 @@ pub struct Answers {
     /// Those of every call on a sheet but the listing, the desk's apart.
     answers: Vec<u32>,
     desk: u32,
-    /// The slices that arrangements were made in.
+    /// The slices that arrangements and single segments were made in.
     slices: Vec<u32>,
     /// The bytes that the sheet was written to in the one way.
     written: Vec<u8>,
@@ -53,6 +55,7 @@ impl Answers {
             self.answers
                 .push(ffi::make(store, sheet, item, code, &mut out));
             self.slices.extend(out);
+            self.ask_segments(store, sheet, item, code);
             let load = |station| ffi::load(store, sheet, item, code, station);
             self.answers.extend(STATIONS.map(load));
         }
@@ -61,6 +64,18 @@ impl Answers {
                 ffi::overhang(store, sheet, item, slope),
                 ffi::guard_force(store, sheet, item, slope),
             ]);
+        }
+    }
+
+    /// The count, and single segments with a number lent that has to stay.
+    fn ask_segments(&mut self, store: &[u32], sheet: &[u8], item: usize, code: u8) {
+        self.answers
+            .push(ffi::segment_count(store, sheet, item, code));
+        for index in INDEXES {
+            let mut out = [MARK; 5];
+            self.answers
+                .push(ffi::segment(store, sheet, item, code, index, &mut out));
+            self.slices.extend(out);
         }
     }
 

@@ -1,6 +1,7 @@
-//! The ten calls with the same answers as the C calls of the library.
+//! The twelve calls with the same answers as the C calls of the library.
 
 use crate::arrangement::Arrangement;
+use crate::board::Board;
 use crate::canonical;
 use crate::forces;
 use crate::ground;
@@ -33,6 +34,25 @@ pub fn desk_verdict(store: &[u32], sheet: &[u8]) -> u32 {
 /// Writes an arrangement's segments, four numbers each; their count, or a refusal.
 pub fn make(store: &[u32], sheet: &[u8], item: usize, code: u8, out: &mut [u32]) -> u32 {
     answer(try_make(store, sheet, item, code, out))
+}
+
+/// The count of an arrangement's segments, or a refusal.
+pub fn segment_count(store: &[u32], sheet: &[u8], item: usize, code: u8) -> u32 {
+    let board = board(store, sheet, item, code);
+    answer(board.map(|board| board.count() as u32))
+}
+
+/// Writes the segment of an index, four numbers, at the front of `out`; 4, or a refusal, which
+/// alters nothing.
+pub fn segment(
+    store: &[u32],
+    sheet: &[u8],
+    item: usize,
+    code: u8,
+    index: usize,
+    out: &mut [u32],
+) -> u32 {
+    answer(try_segment(store, sheet, item, code, index, out))
 }
 
 /// The load at a station, or a refusal.
@@ -138,6 +158,30 @@ fn try_make(
         place.copy_from_slice(&stretch.segment());
     }
     Ok(stretches.len() as u32)
+}
+
+fn board(store: &[u32], sheet: &[u8], item: usize, code: u8) -> Result<Board, Refusal> {
+    let (site, roof) = ask(store, sheet, item)?;
+    roof.and_then(|roof| Board::of(site, roof, code))
+        .ok_or(Refusal::new(number::NOT_MADE, item))
+}
+
+fn try_segment(
+    store: &[u32],
+    sheet: &[u8],
+    item: usize,
+    code: u8,
+    index: usize,
+    out: &mut [u32],
+) -> Result<u32, Refusal> {
+    let segment = board(store, sheet, item, code)?
+        .segment(index)
+        .ok_or(Refusal::new(number::PAST_END, item))?;
+    let front = out
+        .first_chunk_mut()
+        .ok_or(Refusal::new(number::ROOM, item))?;
+    *front = segment;
+    Ok(segment.len() as u32)
 }
 
 fn try_load(

@@ -13,8 +13,9 @@ use crate::eaves::Eave;
 use crate::ffi;
 use crate::layouts::Layout;
 use crate::random::Random;
+use crate::segments;
 use crate::stores::Placed;
-use crate::tally::{Call, Tally};
+use crate::tally::{Call, Tally, MISSING};
 
 /// No number of a segment and no byte of a listing has this value.
 const MARK: u32 = 0xA5A5_A5A5;
@@ -25,10 +26,14 @@ const FRINGE: usize = 64;
 const MAX_ROOM: usize = 200;
 /// The longest text buffer that is lent.
 pub const MAX_LIST_ROOM: usize = LIST_ROOM + 1_000;
+/// The number of a refusal for a slice that is too short.
+const TOO_SHORT: u32 = 11;
 /// The most bytes that are lent for a sheet in the one way.
 pub const MAX_SHEET_ROOM: usize = draft::MAX_SHEET + 100;
-/// Such bytes start at any of so many places in turn.
+/// Such bytes start at any of so many places in turn, the numbers of a single segment too.
 const SHIFTS: usize = 8;
+/// One arrangement in so many is put together in slices of every room.
+const EVERY_ROOM: u64 = 64;
 
 /// What a call on a sheet is lent.
 #[derive(Clone, Copy)]
@@ -44,6 +49,69 @@ pub struct Asked<'a> {
     pub count: usize,
 }
 
+/// What a single segment is asked by.
+#[derive(Clone, Copy)]
+pub struct Single {
+    pub item: usize,
+    pub code: u8,
+    pub index: usize,
+    pub room: usize,
+}
+
+impl Single {
+    pub fn new(item: usize, code: u8, index: usize, room: usize) -> Self {
+        Self {
+            item,
+            code,
+            index,
+            room,
+        }
+    }
+
+    fn describe(&self) -> String {
+        let Self {
+            item,
+            code,
+            index,
+            room,
+        } = self;
+        format!("segment item {item} code {code} index {index} room {room}")
+    }
+}
+
+/// Memory that either side writes a result to, and what is there before and after a call.
+struct Memory<T> {
+    sides: [Vec<T>; 2],
+    old: Vec<T>,
+}
+
+impl<T: Copy + PartialEq> Memory<T> {
+    fn of(old: Vec<T>) -> Self {
+        Self {
+            sides: [old.clone(), old.clone()],
+            old,
+        }
+    }
+
+    /// Whether both sides wrote the same result and nothing around it; all is as before then.
+    fn gives_back(&mut self, place: usize, length: usize, end: usize) -> bool {
+        let [ours, theirs] = &self.sides;
+        let behind = place + length..end;
+        let is_kept = ours[..end] == theirs[..end]
+            && theirs[..place] == self.old[..place]
+            && theirs[behind.clone()] == self.old[behind];
+        let written = if is_kept {
+            place..place + length
+        } else {
+            0..end
+        };
+        for side in &mut self.sides {
+            side[written.clone()].copy_from_slice(&self.old[written.clone()]);
+        }
+        is_kept
+    }
+}
+
 pub struct Checker {
     pub tally: Tally,
     /// Lent with every sheet until another one is.
@@ -54,11 +122,13 @@ pub struct Checker {
     theirs: Vec<u32>,
     text: Vec<u8>,
     buffer: Vec<u8>,
-    /// Lent to either side for a sheet in the one way, and what is there before and after a call.
-    written: [Vec<u8>; 2],
-    old: Vec<u8>,
-    /// Draws the lengths of what is lent so.
+    /// Lent for a sheet in the one way, and for a single segment.
+    bytes: Memory<u8>,
+    numbers: Memory<u32>,
+    /// Draws the lengths of what is lent so, and indexes of segments.
     random: Random,
+    /// Items and codes of the sheet asked about that were put together from single segments.
+    together: Vec<(usize, u8)>,
     /// Kept for the next question about the same arrangement of the sheet asked about.
     before: Option<Before>,
 }
@@ -68,6 +138,8 @@ impl Checker {
         let mut random = Random::new(!seed);
         let mut old = Vec::new();
         draft::noise(&mut random, &mut old, MAX_SHEET_ROOM + SHIFTS + 2 * FRINGE);
+        let numbers = (0..MAX_ROOM + SHIFTS + 2 * FRINGE).map(|_| random.next() as u32);
+        let numbers = numbers.collect();
         Self {
             tally: Tally::new(),
             store: Placed::new(&EMPTY, 0),
@@ -76,9 +148,10 @@ impl Checker {
             theirs: vec![MARK; MAX_ROOM + 2 * FRINGE],
             text: vec![MARK_BYTE; MAX_LIST_ROOM],
             buffer: vec![MARK_BYTE; MAX_LIST_ROOM + 2 * FRINGE],
-            written: [old.clone(), old.clone()],
-            old,
+            bytes: Memory::of(old),
+            numbers: Memory::of(numbers),
             random,
+            together: Vec::new(),
             before: None,
         }
     }
@@ -97,6 +170,7 @@ impl Checker {
     /// comes behind its verdict, with the same store.
     pub fn verdict<'a>(&mut self, sheet: &'a [u8]) -> Asked<'a> {
         self.before = None;
+        self.together.clear();
         let ours = calls::verdict(&self.store, sheet);
         let theirs = ffi::verdict(&self.store, sheet);
         let accepted = ours < calls::REFUSED;
@@ -187,7 +261,7 @@ impl Checker {
     pub fn canonical(&mut self, asked: Asked, room: usize) -> (u32, Vec<u8>) {
         let place = FRINGE + room % SHIFTS;
         let bytes = place..place + room;
-        let [ours, theirs] = &mut self.written;
+        let [ours, theirs] = &mut self.bytes.sides;
         let answers = [
             calls::canonical(&self.store, asked.sheet, &mut ours[bytes.clone()]),
             ffi::canonical(&self.store, asked.sheet, &mut theirs[bytes.clone()]),
@@ -200,26 +274,14 @@ impl Checker {
             length if length < calls::REFUSED => room.min(length as usize),
             _ => 0,
         };
-        let result = self.written[1][bytes][..length].to_vec();
-        let is_kept = self.gives_back(place, length, place + room + FRINGE);
+        let result = self.bytes.sides[1][bytes][..length].to_vec();
+        let end = place + room + FRINGE;
+        let is_kept = self.bytes.gives_back(place, length, end);
         if answers[0] == answers[1] && !is_kept {
             let describe = || format!("{}: other bytes written", describe());
             self.disagree(asked.sheet, describe);
         }
         (answers[1], result)
-    }
-
-    /// Whether both sides wrote the same result and nothing around it; all is as before then.
-    fn gives_back(&mut self, place: usize, length: usize, end: usize) -> bool {
-        let [ours, theirs] = &self.written;
-        let behind = place + length..end;
-        let is_kept = ours[..end] == theirs[..end]
-            && theirs[..place] == self.old[..place]
-            && theirs[behind.clone()] == self.old[behind];
-        for written in &mut self.written {
-            written[..end].copy_from_slice(&self.old[..end]);
-        }
-        is_kept
     }
 
     /// The library's result is no longer than the sheet, and the library accepts it and writes it so
@@ -284,6 +346,9 @@ impl Checker {
         }
         let written = if ours < calls::REFUSED { 4 * ours } else { 0 };
         let numbers = self.ours[FRINGE..FRINGE + written as usize].to_vec();
+        if ours == theirs {
+            self.by_segments(asked, item, code, theirs);
+        }
         if ours == theirs && !numbers.is_empty() {
             self.recall(asked, item, code);
             if let Some(before) = &self.before {
@@ -294,6 +359,166 @@ impl Checker {
             }
         }
         numbers
+    }
+
+    /// Asks for the same arrangement segment by segment, where it is made once while the sheet is
+    /// asked about.
+    fn by_segments(&mut self, asked: Asked, item: usize, code: u8, made: u32) {
+        if made < calls::REFUSED {
+            if !self.together.contains(&(item, code)) {
+                self.together.push((item, code));
+                self.put_together(asked, item, code, made as usize);
+            }
+        } else if calls::refusal_parts(made).0 != TOO_SHORT {
+            self.not_by_segments(asked, item, code, made);
+        }
+    }
+
+    /// Puts an arrangement together from single segments and holds it to what the library makes of it
+    /// at once. Then asks for segments that aren't there, and in slices that are too short.
+    fn put_together(&mut self, asked: Asked, item: usize, code: u8, made: usize) {
+        let numbers = self.theirs[FRINGE..FRINGE + 4 * made].to_vec();
+        let count = self.segment_count(asked, item, code);
+        let mut together = Vec::with_capacity(numbers.len());
+        for index in 0..made {
+            let room = self.room_for_one();
+            let (_, segment) = self.segment(asked, Single::new(item, code, index, room));
+            together.extend(segment);
+        }
+        let is_whole = together == numbers && count as usize == made;
+        let kind = draft::item_of(asked.sheet, item)[0];
+        let before = self.tally.segments.together(kind, code, is_whole);
+        if !is_whole {
+            let describe = || {
+                format!("item {item} code {code}: {count} segments {together:?}, made {numbers:?}")
+            };
+            self.disagree(asked.sheet, describe);
+        }
+        self.other_indexes(asked, item, code, made);
+        if before.is_multiple_of(EVERY_ROOM) {
+            self.every_room(asked, item, code, made);
+        }
+    }
+
+    /// Four numbers, or more.
+    fn room_for_one(&mut self) -> usize {
+        let any = 4 + self.random.below(MAX_ROOM - 3);
+        self.random.pick(&[4, 4, 5, 7, 128, any])
+    }
+
+    /// The index behind the last segment, another one behind it, and one that is there with too few
+    /// numbers lent.
+    fn other_indexes(&mut self, asked: Asked, item: usize, code: u8, count: usize) {
+        let any = self.random.next() as usize >> self.random.below(64);
+        let missing = self.random.pick(&MISSING);
+        let behind = self.random.pick(&[count + 1, missing, missing, any]);
+        let there = self.random.below(count);
+        let few = self.random.below(4);
+        let room = self.random.pick(&segments::ROOMS);
+        for (index, room) in [(count, room), (behind, few), (there, few)] {
+            self.segment(asked, Single::new(item, code, index, room));
+        }
+    }
+
+    /// Each segment, and the two indexes behind the last one, in slices of every room.
+    fn every_room(&mut self, asked: Asked, item: usize, code: u8, count: usize) {
+        for index in 0..count + 2 {
+            for room in segments::ROOMS {
+                self.segment(asked, Single::new(item, code, index, room));
+            }
+        }
+    }
+
+    /// What making refuses for another reason than its slice is refused by both calls, where it is for
+    /// the code of a roof by one of them in turn.
+    fn not_by_segments(&mut self, asked: Asked, item: usize, code: u8, refusal: u32) {
+        let is_both = !(1..asked.count).contains(&item);
+        let is_count = self.random.once_in(2);
+        let missing = self.random.pick(&MISSING);
+        let index = self.random.pick(&[0, 1, 31, 32, missing]);
+        let room = self.random.pick(&segments::ROOMS);
+        let single = Single::new(item, code, index, room);
+        let count = (is_both || is_count).then(|| self.segment_count(asked, item, code));
+        let segment = (is_both || !is_count).then(|| self.segment(asked, single).0);
+        for answer in count.into_iter().chain(segment) {
+            if answer != refusal {
+                let [made, answer] = [refusal, answer].map(show);
+                let describe = || format!("{}: made {made}, {answer}", single.describe());
+                self.disagree(asked.sheet, describe);
+            }
+        }
+    }
+
+    /// Compares the counts of segments; the library's answer.
+    pub fn segment_count(&mut self, asked: Asked, item: usize, code: u8) -> u32 {
+        let ours = calls::segment_count(&self.store, asked.sheet, item, code);
+        let theirs = ffi::segment_count(&self.store, asked.sheet, item, code);
+        let describe = || format!("segment_count item {item} code {code}");
+        self.settle(Call::SegmentCount, asked, item, [ours, theirs], describe);
+        theirs
+    }
+
+    /// Compares single segments, the numbers that are lent and the memory around them; the library's
+    /// answer and its segment, which is all 0 where there is none.
+    pub fn segment(&mut self, asked: Asked, single: Single) -> (u32, [u32; 4]) {
+        let Single {
+            item,
+            code,
+            index,
+            room,
+        } = single;
+        let place = FRINGE + (room + index % SHIFTS) % SHIFTS;
+        let slice = place..place + room;
+        let (store, sheet) = (&self.store, asked.sheet);
+        let [ours, theirs] = &mut self.numbers.sides;
+        let answers = [
+            calls::segment(store, sheet, item, code, index, &mut ours[slice.clone()]),
+            ffi::segment(store, sheet, item, code, index, &mut theirs[slice.clone()]),
+        ];
+        black_box(theirs);
+        let is_there = item < asked.count;
+        self.tally.segments.answer(is_there, single, answers[1]);
+        let describe = || single.describe();
+        self.settle(Call::Segment, asked, item, answers, describe);
+        let sides = &self.numbers.sides;
+        let fronts = [0, 1].map(|side| sides[side][slice.clone()].first_chunk().copied());
+        let segment = fronts[1].filter(|_| answers[1] == 4);
+        let length = segment.map_or(0, |segment: [u32; 4]| segment.len());
+        let end = place + room + FRINGE;
+        let is_kept = self.numbers.gives_back(place, length, end);
+        if answers[0] == answers[1] && !is_kept {
+            let [left, right] = fronts;
+            let describe = || match left == right {
+                true => format!("{}: memory behind the segment or around", describe()),
+                false => format!("{}: second {left:?}, library {right:?}", describe()),
+            };
+            self.disagree(asked.sheet, describe);
+        }
+        (answers[1], segment.unwrap_or_default())
+    }
+
+    /// Compares the counts with the answer known beforehand; whether the library has that one.
+    pub fn known_count(&mut self, asked: Asked, item: usize, code: u8, known: u32) -> bool {
+        let answer = self.segment_count(asked, item, code);
+        if answer != known {
+            let [known, answer] = [known, answer].map(show);
+            let describe = || {
+                format!("segment_count item {item} code {code}: known {known}, library {answer}")
+            };
+            self.disagree(asked.sheet, describe);
+        }
+        answer == known
+    }
+
+    /// Compares single segments with what is known beforehand; whether the library answers that.
+    pub fn known_segment(&mut self, asked: Asked, single: Single, known: (u32, [u32; 4])) -> bool {
+        let answer = self.segment(asked, single);
+        if answer != known {
+            let [known, answer] = [known, answer].map(|(answer, segment)| (show(answer), segment));
+            let describe = || format!("{}: known {known:?}, library {answer:?}", single.describe());
+            self.disagree(asked.sheet, describe);
+        }
+        answer == known
     }
 
     /// Compares the loads at a station; the library's answer.
@@ -458,7 +683,7 @@ impl Checker {
     ) {
         let [ours, theirs] = answers;
         self.tally.call(call);
-        self.tally.answer(ours, item < asked.count);
+        self.tally.answer(call, ours, item < asked.count);
         self.tally.index(item, ours);
         if ours != theirs {
             self.tally.disagree(lent(&self.store, asked.sheet), || {

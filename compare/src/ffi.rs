@@ -1,4 +1,4 @@
-//! The ten C calls of the library behind safe functions.
+//! The twelve C calls of the library behind safe functions.
 
 mod raw {
     #[link(name = "terminal", kind = "static")]
@@ -24,6 +24,25 @@ mod raw {
             length: usize,
             item: usize,
             code: u8,
+            out: *mut u32,
+            room: usize,
+        ) -> u32;
+        pub fn snow_segment_count(
+            store: *const u32,
+            numbers: usize,
+            sheet: *const u8,
+            length: usize,
+            item: usize,
+            code: u8,
+        ) -> u32;
+        pub fn snow_segment(
+            store: *const u32,
+            numbers: usize,
+            sheet: *const u8,
+            length: usize,
+            item: usize,
+            code: u8,
+            index: usize,
             out: *mut u32,
             room: usize,
         ) -> u32;
@@ -99,6 +118,27 @@ pub fn make(store: &[u32], sheet: &[u8], item: usize, code: u8, out: &mut [u32])
     let (room, out) = (out.len(), out.as_mut_ptr());
     // SAFETY: the slices have the lengths given, and the one written to is borrowed alone.
     unsafe { raw::snow_make(store, numbers, sheet, length, item, code, out, room) }
+}
+
+pub fn segment_count(store: &[u32], sheet: &[u8], item: usize, code: u8) -> u32 {
+    let (numbers, store) = (store.len(), store.as_ptr());
+    // SAFETY: both slices have the lengths given.
+    unsafe { raw::snow_segment_count(store, numbers, sheet.as_ptr(), sheet.len(), item, code) }
+}
+
+pub fn segment(
+    store: &[u32],
+    sheet: &[u8],
+    item: usize,
+    code: u8,
+    index: usize,
+    out: &mut [u32],
+) -> u32 {
+    let (numbers, store) = (store.len(), store.as_ptr());
+    let (length, sheet) = (sheet.len(), sheet.as_ptr());
+    let (room, out) = (out.len(), out.as_mut_ptr());
+    // SAFETY: the slices have the lengths given, and the one written to is borrowed alone.
+    unsafe { raw::snow_segment(store, numbers, sheet, length, item, code, index, out, room) }
 }
 
 pub fn load(store: &[u32], sheet: &[u8], item: usize, code: u8, station: u32) -> u32 {

@@ -30,7 +30,7 @@ const EXCHANGES: usize = 6;
 const LENGTH_COUNTS: [usize; 4] = [1, 3, 8, 32];
 const ABOVE: usize = 70;
 /// The first day of the set in the store.
-const FIRST_DAY: u32 = 1_000;
+pub const FIRST_DAY: u32 = 1_000;
 /// The longest sheet that is refused with every length lent.
 const SHORT: usize = 200;
 const TOO_FEW: u32 = REFUSED + 65_536 * 11;
@@ -70,7 +70,7 @@ pub fn room_of(room: usize, bytes: usize) -> usize {
 }
 
 /// A refusal known beforehand: its number, the item that it names, and the sheet.
-type Known = (u32, usize, Vec<u8>);
+pub type Known = (u32, usize, Vec<u8>);
 
 /// What is wrong in the place of an item behind a site of kind 1, a pitched roof and an arch, by the
 /// number that refuses it.
@@ -312,23 +312,28 @@ impl Fuzz {
         }
     }
 
-    /// Sheets that are refused by 1, by 2, and for an item of theirs.
+    /// A site of kind 1, a pitched roof and an arch, refused in every way.
     fn refused_sheets(&mut self) {
         let site = draft::item(&mut self.random, draft::SITE);
         let arch = draft::item(&mut self.random, draft::CYLINDRICAL);
         let sound = [site, draft::item(&mut self.random, draft::PITCHED), arch];
+        for known in self.known_refusals(&sound) {
+            self.refused_first(&known);
+        }
+    }
+
+    /// Three sound items in sheets that are refused by 1, by 2, and for an item in place of one.
+    pub fn known_refusals(&mut self, sound: &[Vec<u8>; 3]) -> Vec<Known> {
         let filling = self.filling(MAX_SHEET);
-        let mut sheets = frames(&draft::without_gaps(&sound), &filling);
-        sheets.extend(bad_pairs(&draft::without_gaps(&sound)));
+        let mut sheets = frames(&draft::without_gaps(sound), &filling);
+        sheets.extend(bad_pairs(&draft::without_gaps(sound)));
         for (number, place, item) in wrong_items(&sound[0]) {
             let mut items = sound.clone();
             items[place] = item;
             let sheet = draft::sheet(&mut self.random, &items);
             sheets.push((number, place, sheet));
         }
-        for known in sheets {
-            self.refused_first(&known);
-        }
+        sheets
     }
 
     /// A broken store comes before any sheet.

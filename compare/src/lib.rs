@@ -3,6 +3,7 @@
 //! It shares no code with the proved library and exists to be compared with it.
 
 pub mod arrangement;
+pub mod board;
 pub mod calls;
 pub mod canonical;
 pub mod forces;

@@ -20,6 +20,7 @@ mod measure;
 mod pairs;
 mod parapets;
 mod random;
+mod segments;
 mod sets;
 mod stores;
 mod tally;
@@ -37,7 +38,7 @@ use second::calls as ffi;
 const SEED: u64 = 20_031_991;
 const SHEETS: u64 = 48_000;
 /// Each with a sound store. Those up to request A7 have no dated sites, so it changes no answer.
-const SWEEPS: [fn(&mut Fuzz); 14] = [
+const SWEEPS: [fn(&mut Fuzz); 15] = [
     Fuzz::sweep,
     Fuzz::sweep_map,
     Fuzz::sweep_codes,
@@ -52,6 +53,7 @@ const SWEEPS: [fn(&mut Fuzz); 14] = [
     Fuzz::sweep_sets,
     Fuzz::sweep_parapets,
     Fuzz::sweep_layouts,
+    Fuzz::sweep_segments,
 ];
 /// A run of the usual size is to reach this.
 const LEAST: u64 = 1_000_000;

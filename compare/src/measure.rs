@@ -16,6 +16,8 @@ use crate::stores;
 const SHEETS: usize = 8;
 const BATCHES: usize = 101;
 const CODES: [u8; 4] = [1, 2, 11, 12];
+/// The roof that is read segment by segment, the last one.
+const ITEM: usize = 31;
 
 /// Times of the batches of both sides in nanoseconds for one sheet.
 struct Times {
@@ -33,6 +35,7 @@ pub fn print(seed: u64) {
     listing_times(&EMPTY, &sheets).print("listing");
     verdict_times(&EMPTY, &sheets).print("verdict");
     make_times(&sheets).print("making");
+    segment_times(&sheets).print(&format!("single segments of item {ITEM}"));
     canonical_times(&EMPTY, &sheets).print("one way");
     for situation in [3, 1] {
         let sheets = heavy_sheets(&mut random, DRIFT_ROOF, situation);
@@ -176,6 +179,28 @@ fn every_arrangement(sheet: &[u8], make: Make) {
     for item in 1..=31 {
         for code in CODES {
             black_box(make(&EMPTY, sheet, item, code, &mut out));
+            black_box(&mut out);
+        }
+    }
+}
+
+/// Every arrangement of one roof of the sheet, segment by segment, and its count. Each call checks the
+/// sheet anew, on both sides.
+fn segment_times(sheets: &[Vec<u8>]) -> Times {
+    let library = |sheet: &[u8]| every_segment(sheet, ffi::segment_count, ffi::segment);
+    let second = |sheet: &[u8]| every_segment(sheet, calls::segment_count, calls::segment);
+    alternate(sheets, 1, library, second)
+}
+
+/// The library's calls or the second calculation's.
+type Count = fn(&[u32], &[u8], usize, u8) -> u32;
+type Segment = fn(&[u32], &[u8], usize, u8, usize, &mut [u32]) -> u32;
+
+fn every_segment(sheet: &[u8], count: Count, segment: Segment) {
+    let mut out = [0; 4];
+    for code in CODES {
+        for index in 0..count(&EMPTY, sheet, ITEM, code) as usize {
+            black_box(segment(&EMPTY, sheet, ITEM, code, index, &mut out));
             black_box(&mut out);
         }
     }

@@ -1,12 +1,13 @@
 //! Counts of comparisons and answers, and the disagreements.
 
 use std::cmp::Ordering;
+use std::collections::BTreeMap;
 use std::ops::AddAssign;
 
 use second::calls::{refusal_parts, NONE, REFUSED};
 
 use crate::before::Returned;
-use crate::check::{Asked, Lent, MAX_SHEET_ROOM};
+use crate::check::{Asked, Lent, Single, MAX_SHEET_ROOM};
 use crate::desk::{self, Read};
 use crate::draft;
 use crate::eaves::Eave;
@@ -14,14 +15,17 @@ use crate::halls::{self, Step};
 use crate::jobs::{self, Job};
 use crate::layouts::{self, Layout};
 use crate::parapets::{self, Parapet, SmallProjection, ALONE, WAYS};
+use crate::segments;
 use crate::stores;
 
-/// The ten calls, in the order of the header.
-pub const CALLS: [&str; 10] = [
+/// The twelve calls, in the order of the header.
+pub const CALLS: [&str; 12] = [
     "add_set",
     "verdict",
     "desk_verdict",
     "make",
+    "segment_count",
+    "segment",
     "load",
     "overhang",
     "guard_force",
@@ -77,6 +81,8 @@ pub enum Call {
     Verdict,
     DeskVerdict,
     Make,
+    SegmentCount,
+    Segment,
     Load,
     Overhang,
     GuardForce,
@@ -97,8 +103,9 @@ pub struct Tally {
     none: u64,
     /// On sheets, by number; 12 for an index counts here.
     refused: [u64; MAX_NUMBER + 1],
-    /// 12 for a station.
+    /// 12 for a station, and for the index of a segment.
     past_roof: u64,
+    past_segments: u64,
     /// How often a slice of each length was lent, and how often it was enough.
     lengths: [(u64, u64); LENGTHS],
     /// How often each missing index was refused by 12.
@@ -113,6 +120,7 @@ pub struct Tally {
     pub sets: SetTally,
     pub parapets: ParapetTally,
     pub layouts: LayoutTally,
+    pub segments: SegmentTally,
     disagreements: u64,
 }
 
@@ -908,6 +916,146 @@ impl LayoutTally {
     }
 }
 
+/// What was asked about single segments.
+#[derive(Default)]
+pub struct SegmentTally {
+    /// Arrangements put together from single segments that are those made at once, and all.
+    whole: u64,
+    together: u64,
+    /// The former by kind and code.
+    codes: BTreeMap<(u8, u8), u64>,
+    /// Single segments, by index.
+    indexes: [u64; segments::MOST],
+    /// Refused by 13, with a segment that is there and enough room, with one of the two wrong, and
+    /// with both.
+    no_code: [u64; 3],
+    /// Refused by 12 for the segment, with enough room and with too little.
+    past: [u64; 2],
+    /// Refused by 11.
+    short: u64,
+    /// How often each missing index was refused by 12.
+    missing: [u64; MISSING.len()],
+    /// Answers known beforehand in every room, by index, and for indexes behind the last one.
+    rooms: [[u64; segments::ROOMS.len()]; segments::MOST],
+    behind: [u64; segments::ROOMS.len()],
+    /// Those where rules are broken, by the way.
+    pub ways: BTreeMap<usize, u64>,
+    /// Counts known beforehand, by the spans of kinds 4 and 9.
+    pub spans: [[u64; draft::MAX_SPANS - 1]; draft::SPANNED.len()],
+}
+
+impl SegmentTally {
+    /// Counts an arrangement that was put together; how many there were before it.
+    pub fn together(&mut self, kind: u8, code: u8, is_whole: bool) -> u64 {
+        self.together += 1;
+        if is_whole {
+            self.whole += 1;
+            *self.codes.entry((kind, code)).or_default() += 1;
+        }
+        self.together - 1
+    }
+
+    /// Counts an answer about an item that is there or isn't.
+    pub fn answer(&mut self, is_there: bool, single: Single, answer: u32) {
+        let is_short = usize::from(single.room < 4);
+        let is_past = usize::from(single.index >= segments::MOST);
+        match number_of(answer) {
+            0 => self.indexes[single.index.min(segments::MOST - 1)] += 1,
+            11 => self.short += 1,
+            12 if is_there => {
+                self.past[is_short] += 1;
+                if let Some(place) = MISSING.iter().position(|&index| index == single.index) {
+                    self.missing[place] += 1;
+                }
+            }
+            13 => self.no_code[is_past + is_short] += 1,
+            _ => {}
+        }
+    }
+
+    /// Counts an answer in a room, where it is the known one.
+    pub fn room(&mut self, is_there: bool, index: usize, place: usize, is_known: bool) {
+        let counts = match is_there {
+            true => &mut self.rooms[index],
+            false => &mut self.behind,
+        };
+        counts[place] += u64::from(is_known);
+    }
+
+    pub fn is_good(&self) -> bool {
+        let refused = self.no_code.iter().chain(&self.past).chain([&self.short]);
+        let rooms = self.rooms.iter().flatten().chain(&self.behind);
+        let mut counts = refused
+            .chain(rooms)
+            .chain(&self.indexes)
+            .chain(&self.missing)
+            .chain(self.ways.values())
+            .chain(self.spans.iter().flatten());
+        self.whole == self.together
+            && self.codes.len() == segments::CODES
+            && self.ways.len() == segments::WAYS
+            && counts.all(|&count| count > 0)
+    }
+
+    fn print(&self) {
+        println!(
+            "SEGMENTS {} of {} arrangements put together from single segments, {} single segments",
+            self.whole,
+            self.together,
+            self.indexes.iter().sum::<u64>()
+        );
+        println!(
+            "  kinds and codes {} of {}, each at least {} times",
+            self.codes.len(),
+            segments::CODES,
+            rarest(self.codes.values())
+        );
+        println!(
+            "  indexes 0 to {}, each at least {} times",
+            segments::MOST - 1,
+            rarest(&self.indexes)
+        );
+        self.print_refusals();
+        println!(
+            "  known beforehand in {} rooms each index at least {} times, those behind the last {}",
+            segments::ROOMS.len(),
+            rarest(self.rooms.iter().flatten()),
+            rarest(&self.behind)
+        );
+        println!(
+            "    ways to break rules {}, each at least {} times",
+            segments::WAYS - 1,
+            rarest(self.ways.values())
+        );
+        println!(
+            "    counts of kinds 4 and 9 with 2 to {} spans, each at least {} times",
+            draft::MAX_SPANS,
+            rarest(self.spans.iter().flatten())
+        );
+    }
+
+    fn print_refusals(&self) {
+        let ([no_code, two, three], [past, past_short]) = (self.no_code, self.past);
+        println!(
+            "  refused by 13 {}, by 12 {}, by 11 {}",
+            no_code + two + three,
+            past + past_short,
+            self.short
+        );
+        println!(
+            "    by 13 with 12 or 11 broken too {two}, with both {three}, by 12 with 11 broken too {past_short}"
+        );
+        println!(
+            "    by 12 each index at the ends of 8, 16, 31, 32 and 64 bits at least {} times",
+            rarest(&self.missing)
+        );
+    }
+}
+
+fn rarest<'a>(counts: impl IntoIterator<Item = &'a u64>) -> u64 {
+    counts.into_iter().copied().min().unwrap_or(0)
+}
+
 /// The sums of a table by row and by column.
 fn sums<const N: usize>(table: &[[u64; N]; N]) -> [[u64; N]; 2] {
     let columns = |column: usize| table.iter().map(|row| row[column]).sum();
@@ -929,6 +1077,7 @@ impl Tally {
             none: 0,
             refused: [0; MAX_NUMBER + 1],
             past_roof: 0,
+            past_segments: 0,
             lengths: [(0, 0); LENGTHS],
             missing: [0; MISSING.len()],
             map: MapTally::default(),
@@ -941,6 +1090,7 @@ impl Tally {
             sets: SetTally::default(),
             parapets: ParapetTally::default(),
             layouts: LayoutTally::default(),
+            segments: SegmentTally::default(),
             disagreements: 0,
         }
     }
@@ -949,14 +1099,17 @@ impl Tally {
         self.calls[call as usize] += 1;
     }
 
-    /// Counts an answer. `index_exists` tells the two ways of refusal 12 apart.
-    pub fn answer(&mut self, answer: u32, index_exists: bool) {
+    /// Counts an answer. The call and `index_exists` tell the three ways of refusal 12 apart.
+    pub fn answer(&mut self, call: Call, answer: u32, index_exists: bool) {
         if answer == NONE {
             self.none += 1;
         } else if answer < REFUSED {
             self.answered += 1;
         } else if number_of(answer) == 12 && index_exists {
-            self.past_roof += 1;
+            match call {
+                Call::Segment => self.past_segments += 1,
+                _ => self.past_roof += 1,
+            }
         } else {
             self.refused[number_of(answer)] += 1;
         }
@@ -1021,12 +1174,14 @@ impl Tally {
     /// No disagreement, and every refusal, every slice length, every missing index, every place of
     /// the map, every situation, every valley, every number of a pair, every drop, at either eave an
     /// overhang by the other slope's load, every edge of the desk's ceiling, either side of every
-    /// kind of upper item, every length of a circle, and of national figures, of parapets and of
-    /// layouts what `SetTally`, `ParapetTally` and `LayoutTally` count was met.
+    /// kind of upper item, every length of a circle, and of national figures, of parapets, of layouts
+    /// and of single segments what `SetTally`, `ParapetTally`, `LayoutTally` and `SegmentTally` count
+    /// was met.
     pub fn is_good(&self) -> bool {
         self.agrees()
             && self.refused[1..].iter().all(|&count| count > 0)
             && self.past_roof > 0
+            && self.past_segments > 0
             && self.lengths.iter().all(|entry| entry.0 > 0)
             && self.missing.iter().all(|&count| count > 0)
             && self.map_sheets > 0
@@ -1041,6 +1196,7 @@ impl Tally {
             && self.sets.is_good()
             && self.parapets.is_good()
             && self.layouts.is_good()
+            && self.segments.is_good()
     }
 
     pub fn print(&self) {
@@ -1069,6 +1225,7 @@ impl Tally {
         self.sets.print();
         self.parapets.print();
         self.layouts.print();
+        self.segments.print();
         self.print_lengths();
         self.print_missing();
         println!("DISAGREEMENTS {}", self.disagreements);
@@ -1081,6 +1238,7 @@ impl Tally {
         }
         println!("  12 index {}", self.refused[12]);
         println!("  12 station {}", self.past_roof);
+        println!("  12 segment {}", self.past_segments);
         for number in 13..=MAX_NUMBER {
             println!("  {number} {}", self.refused[number]);
         }

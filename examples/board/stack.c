@@ -10,11 +10,11 @@
 
 #include "wuqodlisa.h"
 
-enum { STACK = 1 << 20, PAINT = 0xA5, SHEET = 16384, CALLS = 11, SETS = 32, FIELDS = 6 };
+enum { STACK = 1 << 20, PAINT = 0xA5, SHEET = 16384, CALLS = 13, SETS = 32, FIELDS = 6 };
 
 static const char *const names[CALLS] = {
     "nothing", "snow_verdict", "snow_make", "snow_load", "snow_overhang", "snow_guard_force", "snow_list",
-    "snow_ground_load", "snow_desk_verdict", "snow_add_set", "snow_canonical"};
+    "snow_ground_load", "snow_desk_verdict", "snow_add_set", "snow_canonical", "snow_segment_count", "snow_segment"};
 
 static unsigned char stack[STACK] __attribute__((aligned(4096)));
 static uint32_t store[SNOW_STORE_NUMBERS];
@@ -26,7 +26,7 @@ static uint32_t numbers[128];
 static size_t most[CALLS];
 
 /* A question of a call. Of snow_ground_load the zone is the item, the region the code and the altitude the station; of
-   snow_add_set the item is the count of the set's numbers. */
+   snow_add_set the item is the count of the set's numbers; of snow_segment the index is the station. */
 struct job {
     int call;
     size_t item;
@@ -48,6 +48,8 @@ static void *run(void *argument)
     case 8: snow_desk_verdict(store, SNOW_STORE_NUMBERS, sheet, length); break;
     case 9: snow_add_set(store, SNOW_STORE_NUMBERS, set, job->item); break;
     case 10: snow_canonical(store, SNOW_STORE_NUMBERS, sheet, length, out, sizeof out); break;
+    case 11: snow_segment_count(store, SNOW_STORE_NUMBERS, sheet, length, job->item, job->code); break;
+    case 12: snow_segment(store, SNOW_STORE_NUMBERS, sheet, length, job->item, job->code, job->station, numbers, 4); break;
     default: break;
     }
     return NULL;
@@ -87,6 +89,9 @@ static void measure_sheet(void)
         for (size_t k = 0; k < sizeof codes; k++) {
             measure((struct job){2, item, codes[k], 0});
             measure((struct job){3, item, codes[k], 5000});
+            measure((struct job){11, item, codes[k], 0});
+            for (uint32_t index = 0; index <= 32; index += 8)
+                measure((struct job){12, item, codes[k], index});
         }
         for (uint8_t slope = 0; slope <= 2; slope++) {
             measure((struct job){4, item, slope, 0});
@@ -223,6 +228,6 @@ int main(int count, char **names_of_sheets)
     measure_sheet();
     measure_map();
     for (int call = 1; call < CALLS; call++)
-        printf("%-17s %zu bytes of stack\n", names[call], most[call] - most[0]);
+        printf("%-18s %zu bytes of stack\n", names[call], most[call] - most[0]);
     return 0;
 }

@@ -97,6 +97,39 @@ static uint32_t make(const struct sheet *sheet, size_t item, uint8_t code, uint3
     return answer;
 }
 
+/* Lends the first numbers of five marked ones for one segment. A refusal alters nothing of them, an answer the four at
+ * their front. */
+static uint32_t segment(const struct sheet *sheet, size_t item, uint8_t code, size_t index, uint32_t out[5], size_t room)
+{
+    memset(out, MARK, 5 * sizeof *out);
+    uint32_t answer = snow_segment(SNOW_EMPTY_STORE, SNOW_STORE_NUMBERS, sheet->bytes, sheet->length, item, code, index,
+                                   out, room);
+    size_t written = decode(answer).number != 0 ? 0 : 4;
+    check(is_marked(out + written, (5 - written) * sizeof *out), "snow_segment altered more than its segment", item);
+    return answer;
+}
+
+static uint32_t segment_count(const struct sheet *sheet, size_t item, uint8_t code)
+{
+    return snow_segment_count(SNOW_EMPTY_STORE, SNOW_STORE_NUMBERS, sheet->bytes, sheet->length, item, code);
+}
+
+/* The arrangement that was made, as a board reads it that has space for one segment: the count, then each index. */
+static void ask_one_by_one(const struct sheet *sheet, size_t item, uint8_t code, const uint32_t *made, size_t count)
+{
+    uint32_t out[5];
+    uint32_t number = segment_count(sheet, item, code);
+    printf("COUNT %zu %u: ", item, code);
+    print_answer(number, "segments");
+    check(number == count, "the count is another one", item);
+    for (size_t i = 0; i < count; i++) {
+        uint32_t answer = segment(sheet, item, code, i, out, 5);
+        check(answer == 4 && memcmp(out, made + 4 * i, 4 * sizeof *out) == 0, "a single segment differs", item);
+    }
+    check(refused_with(segment(sheet, item, code, 0, out, 3), 11, item), "three numbers for a segment", item);
+    check(refused_with(segment(sheet, item, code, count, out, 3), 12, item), "an index at the count", item);
+}
+
 static uint32_t load(const struct sheet *sheet, size_t item, uint8_t code, uint32_t station)
 {
     uint32_t answer =
@@ -122,15 +155,18 @@ static void ask_segment(const struct sheet *sheet, size_t item, uint8_t code, co
 /* The segments of one arrangement; their count. */
 static size_t ask_arrangement(const struct sheet *sheet, size_t item, uint8_t code)
 {
-    uint32_t out[SLICE];
+    uint32_t out[SLICE], one[5];
     uint32_t count = make(sheet, item, code, out, SLICE);
     printf("MAKE %zu %u: ", item, code);
     print_answer(count, "segments");
     if (decode(count).number != 0) {
         check(refused_with(count, 13, item), "refused, and not with 13", item);
         check(load(sheet, item, code, 0) == count, "a load where no arrangement is made", item);
+        check(segment_count(sheet, item, code) == count, "segments where no arrangement is made", item);
+        check(segment(sheet, item, code, SIZE_MAX, one, 3) == count, "a segment where no arrangement is made", item);
         return 0;
     }
+    ask_one_by_one(sheet, item, code, out, count);
     for (size_t i = 0; i < count; i++)
         ask_segment(sheet, item, code, out + 4 * i);
     uint32_t past = out[4 * count - 3] + 1;
@@ -165,11 +201,13 @@ static size_t ask_roof(const struct sheet *sheet, size_t item)
 /* Every call that asks for this item gives the same refusal. */
 static void check_refused(const struct sheet *sheet, size_t item, uint32_t refusal)
 {
-    uint32_t out[SLICE];
+    uint32_t out[SLICE], one[5];
     uint32_t reading = snow_load(SNOW_EMPTY_STORE, SNOW_STORE_NUMBERS, sheet->bytes, sheet->length, item, 1, 0);
     uint32_t overhang = snow_overhang(SNOW_EMPTY_STORE, SNOW_STORE_NUMBERS, sheet->bytes, sheet->length, item, 1);
     uint32_t guard = snow_guard_force(SNOW_EMPTY_STORE, SNOW_STORE_NUMBERS, sheet->bytes, sheet->length, item, 1);
     check(make(sheet, item, 1, out, SLICE) == refusal, "snow_make refuses otherwise", item);
+    check(segment_count(sheet, item, 1) == refusal, "snow_segment_count refuses otherwise", item);
+    check(segment(sheet, item, 1, 0, one, 5) == refusal, "snow_segment refuses otherwise", item);
     check(reading == refusal, "snow_load refuses otherwise", item);
     check(overhang == refusal && guard == refusal, "a force is refused otherwise", item);
 }

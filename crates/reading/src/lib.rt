@@ -2,8 +2,8 @@
 #![tactic(auto)]
 
 ghost use Rattle.std.specs.Prelude.{◌≡◌};
-ghost use Rattle.roof_readings.specs.Reading.{reading_means, distance_of};
-ghost use Rattle.standard.specs.Answers.{national_for, load_answer};
+ghost use Rattle.roof_readings.specs.Reading.{distance_of};
+ghost use Rattle.standard.specs.Answers.{result_means, national_for, load_answer};
 
 use figures::{Refusal, Roof, Site};
 use roof_readings::load_in;
@@ -18,7 +18,7 @@ pub fn load_at(
     code: u8,
     station: u32,
 ) -> Result<u32, Refusal>
-    ensures answer { reading_means result ≡ load_answer store.now site roof code station }
+    ensures answer { result_means result ≡ load_answer store.now site roof code station }
     ensures distance { distance_of (national_for store.now site) site roof code station result }
 {
     let figures = figure_rules::accept(store, site, roof)?;

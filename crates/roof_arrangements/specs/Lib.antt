@@ -1,1 +1,1 @@
-pub mod Arrangement
+pub mod InTurn

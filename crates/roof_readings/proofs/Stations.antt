@@ -8,12 +8,12 @@ use Rattle.figures.specs.declared.refusal.Refusal.{Refusal}
 use Rattle.figures.specs.declared.site.Site.{Site}
 use Rattle.figures.specs.declared.roof.Roof.{Roof}
 use Rattle.ramps.specs.Ramps.{RoundedStretch, ramp_of, read_ramp}
-use Rattle.standard.specs.Answers.{national_for, load_answer}
+use Rattle.standard.specs.Answers.{result_means, national_for, load_answer}
 use Rattle.standard.specs.Stretch.{Stretch, read_in, start_of, reading_at, greatest}
 use Rattle.standard.specs.Units.{parts}
 use Rattle.standard.proofs.Answered.{answers_near, answers_rise}
 use Rattle.standard.proofs.Demand.{Alike}
-use Rattle.roof_readings.specs.Reading.{reading_means, value_of, distance_of, InOrder}
+use Rattle.roof_readings.specs.Reading.{value_of, distance_of, InOrder}
 
 pub one_more :
     (S : ℕ → Stretch) (p i start : ℕ) (r : RoundedStretch) → start ≡ start_of S i → r ≡ ramp_of (S i)
@@ -23,7 +23,7 @@ one_more S p i start r es er best v b e f g = g ∙ rw (add-one i, e, f, es, er)
 
 -- what is answered as a load lies near the exact rule
 pub near_answer :
-    (store : List ℕ) (s : Site) (r : Roof) (code p : ℕ) (a : Result ℕ Refusal) → reading_means a ≡ load_answer store s r code p
+    (store : List ℕ) (s : Site) (r : Roof) (code p : ℕ) (a : Result ℕ Refusal) → result_means a ≡ load_answer store s r code p
     → distance_of (national_for store s) s r code p a
 near_answer store s r code p (Ok x) e = answers_near store s r code p x (cc)
 near_answer store s r code p (Err refusal) e = tt
@@ -31,7 +31,7 @@ near_answer store s r code p (Err refusal) e = tt
 -- demand 3, of two answers of the call, for sites that differ in sk alone and use equal sets: the load never falls as the ground load rises
 pub rising_answers :
     (c d : List ℕ) (s t : Site) (r : Roof) (code p : ℕ) (a b : Result ℕ Refusal) → Alike s t → national_for c s ≡ national_for d t → s.sk ≤ t.sk
-    → reading_means a ≡ load_answer c s r code p → reading_means b ≡ load_answer d t r code p → InOrder a b
+    → result_means a ≡ load_answer c s r code p → result_means b ≡ load_answer d t r code p → InOrder a b
 rising_answers c d s t r code p (Ok x) (Ok y) l u h e f = answers_rise c d s t r code p x y l u h (cc) (cc)
 rising_answers c d s t r code p (Ok x) (Err refusal) l u h e f = tt
 rising_answers c d s t r code p (Err refusal) b l u h e f = tt

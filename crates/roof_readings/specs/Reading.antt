@@ -1,19 +1,12 @@
 -- What the call that reads a load at a station answers, and how far a load that it answers lies above the exact rule.
 use Rattle.std.specs.Prelude.{ℕ, ◌-◌, ◌≤◌, cond, Result, Ok, Err}
-use Rattle.figures.specs.Refusal.{number_of}
 use Rattle.figures.specs.declared.national.National.{National}
 use Rattle.figures.specs.declared.refusal.Refusal.{Refusal}
 use Rattle.figures.specs.declared.site.Site.{Site}
 use Rattle.figures.specs.declared.roof.Roof.{Roof}
 use Rattle.ramps.specs.Ramps.{RoundedStretch, read_ramp}
-use Rattle.standard.specs.Answers.{Answer, value, refused}
 use Rattle.standard.specs.Arrangements.{exact_at, NearExact}
 use Rattle.standard.specs.Stretch.{holds}
-
--- the load, or document 01's number
-abbrev pub reading_means : Result ℕ Refusal → Answer
-reading_means (Ok x) = value x
-reading_means (Err refusal) = refused (number_of refusal)
 
 -- what a ramp that starts at start reads at a station, 0 where it does not hold it
 unfoldable pub value_of : RoundedStretch → ℕ → ℕ → ℕ

@@ -2,8 +2,8 @@
 #![tactic(auto)]
 
 ghost use Rattle.std.specs.Prelude.{◌≡◌, ◌≤◌};
-ghost use Rattle.roof_readings.specs.Reading.{reading_means, value_of};
-ghost use Rattle.standard.specs.Answers.{load_in};
+ghost use Rattle.roof_readings.specs.Reading.{value_of};
+ghost use Rattle.standard.specs.Answers.{result_means, load_in};
 ghost use Rattle.standard.specs.Arrangements.{load_at};
 ghost use Rattle.standard.specs.Units.{largest_position, largest_load};
 
@@ -46,7 +46,7 @@ fn greatest_reading(arrangement: &Arrangement, station: u64) -> u64
 // have the national figures in use.
 #[tactic(auto, using(std::proofs::lemmas::Bool::Decides::nat_tests), unfolding(standard::specs::Answers::load_in, standard::specs::Answers::after_code, standard::specs::Answers::station_answer))]
 pub fn load_in(figures: &AcceptedFigures, code: u8, station: u32) -> Result<u32, Refusal>
-    ensures { reading_means result ≡ load_in figures.now.national figures.now.site figures.now.roof code station }
+    ensures { result_means result ≡ load_in figures.now.national figures.now.site figures.now.roof code station }
 {
     let arrangement = Arrangement::find(figures, code)?;
     let station = u64::from(station);

@@ -3,6 +3,8 @@ ghost use Rattle.std.specs.Prelude.{◌≡◌, ◌≤◌, ◌<◌, true, false, 
 ghost use Rattle.ramps.specs.Ramps.{ramp_of};
 ghost use Rattle.segments.specs.Arranged.{Arranged};
 ghost use Rattle.standard.specs.Arrangements.{exists, count, stretch, end_of};
+ghost use Rattle.standard.specs.Stretch.{start_of};
+ghost use Rattle.standard.specs.Units.{largest_position};
 
 use crate::kinds::{count_in, end_in, ramp_in};
 use code_rules::{factor, has_arrangement};
@@ -67,6 +69,20 @@ impl<'a> Arrangement<'a> {
         ensures { let f = self.now.figures.now in result ≡ ramp_of (stretch f.national f.site f.roof self.now.code i) }
     {
         ramp_in(self.figures, self.persistent, self.ground, i)
+    }
+
+    // Where the segment at an index starts: the sum of the lengths before it. By a loop: a chain's sum would need a lemma that says the
+    // same.
+    pub fn start(&self, i: usize) -> u64
+        requires { i ≤ count self.now.figures.now.national self.now.figures.now.roof self.now.code }
+        ensures { let f = self.now.figures.now in (result ≡ start_of (stretch f.national f.site f.roof self.now.code) i) × (result ≤ largest_position) }
+    {
+        let mut start = 0;
+        for before in 0..i {
+            let ramp = self.ramp(before);
+            start += ramp.extent;
+        }
+        start
     }
 
     // The roof's length in quarter millimetres.

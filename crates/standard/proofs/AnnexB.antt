@@ -23,7 +23,7 @@ use Rattle.figures.specs.National.{recommended_figures}
 use Rattle.standard.specs.Drift.{peak, drift_row, drift_index, drift, drift_count}
 use Rattle.standard.specs.MultiSpan.{widths}
 use Rattle.standard.specs.Obstruction.{parapet_length, parapet_peak, side_length, side_peak, obstruction_lengths, left_peak, right_peak, obstructed}
-use Rattle.standard.specs.Stretch.{read_in, start_of, segment, segments, holds, reading_at, greatest}
+use Rattle.standard.specs.Stretch.{read_in, start_of, segment, segments, lists_joined, holds, reading_at, greatest}
 use Rattle.standard.specs.ValleyDrift.{valley_peak, valley_drift, spans_stretch, spans_count}
 
 -- the codes below n that exist, upward
@@ -123,7 +123,7 @@ drifts_stated =
 pub which_drifts : drifts_computed ≡ drifts_stated
 unfolding
     arrangement_in_parts load_in_parts count stretch count_in stretch_in factor_of spans_count spans_stretch valley_drift valley_peak drift_row peak widths slope_of valley_of
-    segments segment start_of read_in greatest reading_at holds reading break_load rounded_up ceil_div smaller
+    segments lists_joined segment start_of read_in greatest reading_at holds reading break_load rounded_up ceil_div smaller
 which_drifts = refl
 
 -- the drift at an obstruction, and a load read there
@@ -168,6 +168,6 @@ obstructions_stated =
 pub which_obstructions : obstructions_computed ≡ obstructions_stated
 unfolding
     arrangement_in_parts load_in_parts count stretch count_in stretch_in factor_of obstructed obstruction_lengths left_peak right_peak parapet_length parapet_peak
-    side_length side_peak drift drift_row drift_index drift_count peak segments segment start_of read_in greatest reading_at holds reading break_load rounded_up ceil_div
+    side_length side_peak drift drift_row drift_index drift_count peak segments lists_joined segment start_of read_in greatest reading_at holds reading break_load rounded_up ceil_div
     smaller
 which_obstructions = refl

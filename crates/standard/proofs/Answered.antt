@@ -27,13 +27,13 @@ figures_accepted store site roof h =
     record { national = in_use_in store site.day a.accepted_store; site = a.site; roof = a.roof }
 
 -- an answer that is a value comes from where the test before it held
-value_of : (b : Bool) (a : Answer) (n x : ℕ) → cond b a (refused n) ≡ value x → (b ≡ true) × (a ≡ value x)
+pub value_of : (b : Bool) (a : Answer) (n x : ℕ) → cond b a (refused n) ≡ value x → (b ≡ true) × (a ≡ value x)
 value_of true a n x e = (refl, e)
 value_of false a n x e = let z : ◌≡◌ {A = ℕ} 0 1 = cc in absurd (omega arith)
 
 -- what is answered after the rules on the figures: their refusal, or what comes next
 module _ (store : List ℕ) (site : Site) (roof : Roof) (next : Answer) where
-  after_rules_lem : (x : ℕ) → after_rules store site roof next ≡ value x → (figures_refusal store site roof ≡ 0) × (next ≡ value x)
+  pub after_rules_lem : (x : ℕ) → after_rules store site roof next ≡ value x → (figures_refusal store site roof ≡ 0) × (next ≡ value x)
   unfolding after_rules
   after_rules_lem x e =
       let p = value_of (eqb (figures_refusal store site roof) 0) next _ x e in

@@ -7,11 +7,11 @@ use lib.ListN.{length, get_or, length-append, get_or-append}
 use lib.Seq.{get_or-append-add}
 use native.Mathlib.Nat.{eq-or-lt_of_le}
 use native.Mathlib.Omega.{arith}
-use Rattle.standard.specs.Stretch.{Stretch, segment, segments}
+use Rattle.standard.specs.Stretch.{Stretch, segment, segments, lists_joined}
 
 module _ (g : ℕ) (S : ℕ → Stretch) where
   pub segments_length : (n : ℕ) → length (segments g S n) ≡ 4 * n
-  unfolding segments segment
+  unfolding segments lists_joined segment
   segments_length zero = refl
   segments_length (suc n) = simp length-append (omega (arith, segments_length n))
 
@@ -23,7 +23,7 @@ module _ (g : ℕ) (S : ℕ → Stretch) where
       ∙ (get_or-append-add (segments g S n) (segment g S n ++ rest) j 0 ∙ get_or-append (segment g S n) rest 0 j h)
 
   pub place : (n k i j : ℕ) (rest : List ℕ) → k < n → i ≡ 4 * k + j → j < 4 → get_or (segments g S n ++ rest) i 0 ≡ get_or (segment g S k) j 0
-  unfolding segments
+  unfolding segments lists_joined
   place zero k i j rest h e l = absurd (omega arith)
   place (suc n) k i j rest h e l =
       let q : k ≤ n = omega arith in

@@ -12,7 +12,7 @@ use Rattle.figures.specs.declared.roof.ProjectionRoof.{ProjectionRoof}
 use Rattle.figures.specs.declared.roof.Roof.{Roof}
 use Rattle.figures.specs.declared.roof.Shape.TheVariants.{Projection}
 use Rattle.standard.specs.Arrangements.{count_in, stretch_in}
-use Rattle.standard.specs.Answers.{after_rules, make_answer, load_answer}
+use Rattle.standard.specs.Answers.{after_rules, make_answer, segment_count_answer, segment_answer, load_answer}
 use Rattle.standard.specs.Forces.{overhang_answer, guard_answer}
 
 module _ (a b : List ℕ) (day : Option ℕ) (h : SameFor a b day) where
@@ -31,6 +31,14 @@ module _ (a b : List ℕ) (site : Site) (roof : Roof) (h : SameFor a b site.day)
   pub same_make : (code room : ℕ) → make_answer a site roof code room ≡ make_answer b site roof code room
   unfolding make_answer after_rules
   same_make code room = rw (same_rules, same_figures a b site.day h)
+
+  pub same_count : (code : ℕ) → segment_count_answer a site roof code ≡ segment_count_answer b site roof code
+  unfolding segment_count_answer after_rules
+  same_count code = rw (same_rules, same_figures a b site.day h)
+
+  pub same_segment : (code i room : ℕ) → segment_answer a site roof code i room ≡ segment_answer b site roof code i room
+  unfolding segment_answer after_rules
+  same_segment code i room = rw (same_rules, same_figures a b site.day h)
 
   pub same_load : (code p : ℕ) → load_answer a site roof code p ≡ load_answer b site roof code p
   unfolding load_answer after_rules

@@ -21,7 +21,7 @@ use Rattle.standard.specs.Arrangements.{factor_of, count_in, stretch_in, count, 
 use Rattle.figures.specs.National.{recommended_figures}
 use Rattle.standard.specs.Coefficients.{mu1, guarded, mu2, drift_length, mu_wind, mu_slide}
 use Rattle.standard.specs.MultiSpan.{own_load, valley_load, multi_span_from, multi_span_to, multi_span}
-use Rattle.standard.specs.Stretch.{load, read_in, start_of, segment, segments, holds, reading_at, greatest}
+use Rattle.standard.specs.Stretch.{load, read_in, start_of, segment, segments, lists_joined, holds, reading_at, greatest}
 use Rattle.standard.specs.ValleyDrift.{spans_stretch, spans_count}
 
 abbrev sloping : ℕ → ℕ → Slope
@@ -79,5 +79,5 @@ unfolding
     arrangement_in_parts load_in_parts count count_in stretch stretch_in factor_of spans_count spans_stretch abutting abutting_drift abutting_count wall_load
     multi_span multi_span_from multi_span_to own_load valley_load slope_of
     mu1 guarded mu2 drift_length mu_wind mu_slide
-    segments segment start_of read_in load greatest reading_at holds reading break_load rounded_up ceil_div sum smaller larger held_to
+    segments lists_joined segment start_of read_in load greatest reading_at holds reading break_load rounded_up ceil_div sum smaller larger held_to
 in_tenths = refl

@@ -57,10 +57,14 @@ start_of S (suc i) = start_of S i + (S i).extent
 unfoldable pub segment : ℕ → (ℕ → Stretch) → ℕ → List ℕ
 segment g S i = start_of S i ∷ (start_of S i + (S i).extent) ∷ read_in g (S i) 0 ∷ read_in g (S i) (S i).extent ∷ []
 
+-- the first n of lists by their index, one after the other
+unfoldable pub lists_joined : (ℕ → List ℕ) → ℕ → List ℕ
+lists_joined L zero = []
+lists_joined L (suc n) = lists_joined L n ++ L n
+
 -- the first n segments, one after the other
 unfoldable pub segments : ℕ → (ℕ → Stretch) → ℕ → List ℕ
-segments g S zero = []
-segments g S (suc n) = segments g S n ++ segment g S n
+segments g S n = lists_joined (segment g S) n
 
 -- a stretch that starts at start holds the station p
 unfoldable pub holds : ℕ → ℕ → ℕ → Bool

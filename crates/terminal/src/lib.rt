@@ -12,11 +12,11 @@ ghost use Rattle.ceilings.specs.Ceilings.{terminals, desk};
 ghost use Rattle.sheet.specs.Sheet.{sheet_verdict};
 ghost use Rattle.answer_codes.specs.Codes.{answer_code, alone_code};
 ghost use Rattle.map_sites.specs.Sites.{ground_answer};
-ghost use Rattle.item_answers.specs.Calls.{make_code, slice_after, load_code, overhang_code, guard_code};
+ghost use Rattle.item_answers.specs.Calls.{make_code, slice_after, segment_count_code, segment_code, segment_after, load_code, overhang_code, guard_code};
 
 use added_sets::add_set;
 use answer_codes::{alone, count, force, number};
-use item_answers::{guard_force_at, load_at, make_at, overhang_at};
+use item_answers::{guard_force_at, load_at, make_at, overhang_at, segment_at, segment_count_at};
 use map_sites::ground_load;
 use sheet::{Caller, verdict};
 use sheet_figures::find;
@@ -47,9 +47,33 @@ pub extern "C" fn snow_make(
     out: &mut [u32],
 ) -> u32
     ensures value { result ≡ make_code (found store.now sheet.now item) item code (length out.old) }
-    ensures out_after { out.new ≡ slice_after (found store.now sheet.now item) code out.old }
+    ensures out_after { out.new ≡ slice_after (found store.now sheet.now item) item code out.old }
 {
     count(make_at(find(store, sheet, item), item, code, out))
+}
+
+// The count of segments of an item's arrangement, or a refusal.
+#[unsafe(no_mangle)]
+pub extern "C" fn snow_segment_count(store: &[u32], sheet: &[u8], item: usize, code: u8) -> u32
+    ensures { result ≡ segment_count_code (found store.now sheet.now item) item code }
+{
+    count(segment_count_at(find(store, sheet, item), item, code))
+}
+
+// 4, the numbers of one segment of an item's arrangement, which are at the front of the slice; or a refusal, which alters nothing.
+#[unsafe(no_mangle)]
+pub extern "C" fn snow_segment(
+    store: &[u32],
+    sheet: &[u8],
+    item: usize,
+    code: u8,
+    index: usize,
+    out: &mut [u32],
+) -> u32
+    ensures value { result ≡ segment_code (found store.now sheet.now item) item code index (length out.old) }
+    ensures out_after { out.new ≡ segment_after (found store.now sheet.now item) item code index out.old }
+{
+    count(segment_at(find(store, sheet, item), item, code, index, out))
 }
 
 // The load at a station of an item's arrangement, or a refusal.

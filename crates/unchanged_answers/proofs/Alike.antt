@@ -6,7 +6,7 @@ use lib.ListN.{length}
 use Rattle.answer_codes.specs.Codes.{answer_code}
 use Rattle.canonical_sheets.specs.Canonical.{canonical, canonical_answer, canonical_after, archived_by, archived}
 use Rattle.ceilings.specs.Ceilings.{terminals}
-use Rattle.item_answers.specs.Calls.{make_code, slice_after, load_code, overhang_code, guard_code}
+use Rattle.item_answers.specs.Calls.{make_code, slice_after, segment_count_code, segment_code, segment_after, load_code, overhang_code, guard_code}
 use Rattle.listing.specs.Listing.{listing, listed, bytes_after}
 use Rattle.pairs.specs.Pairs.{Answer, accepted, refused}
 use Rattle.sheet.specs.Sheet.{sheet_verdict}
@@ -45,7 +45,10 @@ module _
             λ old. same_after (canonical_answer a s (length old)) old ∙ ap (λ (v : Answer ℕ). canonical_after v t old) (same_written (length old));
         archive = same_archived;
         snow_make = λ item code room. ap (λ (f : Answer AtIndex). make_code f item code room) (figures item);
-        snow_slice = λ item code old. ap (λ (f : Answer AtIndex). slice_after f code old) (figures item);
+        snow_slice = λ item code old. ap (λ (f : Answer AtIndex). slice_after f item code old) (figures item);
+        snow_segment_count = λ item code. ap (λ (f : Answer AtIndex). segment_count_code f item code) (figures item);
+        snow_segment = λ item code index room. ap (λ (f : Answer AtIndex). segment_code f item code index room) (figures item);
+        snow_segment_slice = λ item code index old. ap (λ (f : Answer AtIndex). segment_after f item code index old) (figures item);
         snow_load = λ item code station. ap (λ (f : Answer AtIndex). load_code f item code station) (figures item);
         snow_overhang = λ item slope. ap (λ (f : Answer AtIndex). overhang_code f item slope) (figures item);
         snow_guard_force = λ item slope. ap (λ (f : Answer AtIndex). guard_code f item slope) (figures item);

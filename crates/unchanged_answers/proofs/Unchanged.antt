@@ -5,7 +5,6 @@ use mathlib.Core.Path.{◌≡◌, refl, ap}
 use Rattle.added_sets.proofs.Unchanged.{unchanged_before}
 use Rattle.added_sets.specs.Adding.{store_after, JobBefore}
 use Rattle.answer_codes.specs.Codes.{answer_code}
-use Rattle.roof_arrangements.specs.Arrangement.{contents}
 use Rattle.ceilings.specs.Ceilings.{terminals, ceiling_of}
 use Rattle.ceilings.specs.declared.Caller.{Caller}
 use Rattle.figures.specs.Store.{set_from, SameFor}
@@ -15,7 +14,9 @@ use Rattle.figures.specs.declared.roof.Roof.{Roof}
 use Rattle.pairs.specs.Pairs.{Answer}
 use Rattle.sheet.specs.Sheet.{Place, place, part_at}
 use Rattle.sheet_figures.specs.Find.{sheet_site}
-use Rattle.standard.proofs.Stores.{same_figures, same_make, same_load, same_overhang, same_guard}
+use Rattle.standard.proofs.Stores.{same_figures, same_make, same_count, same_segment, same_load, same_overhang, same_guard}
+use Rattle.standard.specs.Answers.{made_slice, segment_slice}
+use Rattle.standard.specs.Arrangements.{stretch}
 use Rattle.unchanged_answers.specs.Alike.{FiguresAlike, ReadAlike, SheetAlike}
 use Rattle.unchanged_answers.proofs.Alike.{sheet_alike}
 use Rattle.unchanged_answers.proofs.Sheets.{same_verdict, same_place, same_found, same_listing}
@@ -24,7 +25,10 @@ figures_alike : (a b : List ℕ) (site : Site) (roof : Roof) → SameFor a b sit
 figures_alike a b site roof h =
     record {
       make = same_make a b site roof h;
-      slice = λ code made old. ap (λ (n : National). contents n site roof code made old) (same_figures a b site.day h);
+      slice = λ code made old. ap (λ (n : National). made_slice made (stretch n site roof code) old) (same_figures a b site.day h);
+      count = same_count a b site roof h;
+      segment = same_segment a b site roof h;
+      segment_slice = λ code index made old. ap (λ (n : National). segment_slice made (stretch n site roof code) index old) (same_figures a b site.day h);
       load = same_load a b site roof h;
       overhang = same_overhang a b site roof h;
       guard = same_guard a b site roof h;

@@ -24,7 +24,7 @@ use Rattle.standard.specs.Forces.{overhang_rule, overhang_force}
 use Rattle.standard.specs.Monopitch.{monopitch}
 use Rattle.standard.specs.MultiSpan.{own_load, valley_load, multi_span_from, multi_span_to, multi_span}
 use Rattle.standard.specs.Pitched.{pitched}
-use Rattle.standard.specs.Stretch.{load, read_in, start_of, segment, segments, holds, reading_at, greatest}
+use Rattle.standard.specs.Stretch.{load, read_in, start_of, segment, segments, lists_joined, holds, reading_at, greatest}
 use Rattle.standard.specs.ValleyDrift.{spans_stretch, spans_count}
 
 abbrev pub site_of : ℕ → Site
@@ -124,7 +124,7 @@ unfolding computed stated
     cylindrical arch_drift arch_even peak_load half_load loaded_width first_from wide_enough
     abutting abutting_drift wall_load
     mu1 guarded mu2 mu3 drift_length mu_wind mu_slide
-    segments segment start_of read_in load load_in_parts greatest reading_at holds
+    segments lists_joined segment start_of read_in load load_in_parts greatest reading_at holds
     reading break_load rounded_up ceil_div sum smaller larger held_to
     shape_refusal slope_of slopes_fields steep_valleys first_of
     overhang_force overhang_rule

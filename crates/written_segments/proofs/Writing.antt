@@ -8,7 +8,7 @@ use lib.Seq.{take_at, drop-append-add, drop-drop}
 use native.Mathlib.Numerals.{add-one}
 use native.Mathlib.Omega.{arith}
 use Rattle.ramps.specs.Ramps.{RoundedStretch, ramp_of, read_ramp}
-use Rattle.standard.specs.Stretch.{Stretch, read_in, start_of, segment, segments}
+use Rattle.standard.specs.Stretch.{Stretch, read_in, start_of, segment, segments, lists_joined}
 use Rattle.standard.specs.Units.{parts}
 use Rattle.standard.proofs.Segments.{segments_length}
 
@@ -28,7 +28,7 @@ module _ (S : ℕ → Stretch) where
   pub one_more :
       (old out four : List ℕ) (i : ℕ) → four ≡ segment parts S i → out ≡ segments parts S i ++ drop (4 * i) old
       → put_mid (4 * i) (4 * i + 4 - 4 * i) out four ≡ segments parts S (i + 1) ++ drop (4 * (i + 1)) old
-  unfolding segments
+  unfolding segments lists_joined
   one_more old out four i f e =
       let behind = Post-is (4 * i) (4 * i + 4) out (omega arith) in
       rw behind
@@ -38,6 +38,7 @@ module _ (S : ℕ → Stretch) where
 
   -- a segment from its ramp and its start
   module _ (i start : ℕ) (r : RoundedStretch) (es : start ≡ start_of S i) (er : r ≡ ramp_of (S i)) where
-    pub segment_is : (a b : ℕ) → a ≡ read_ramp r 0 → b ≡ read_ramp r r.extent → start ∷ (start + r.extent) ∷ a ∷ b ∷ [] ≡ segment parts S i
+    pub segment_is :
+        (s e a b : ℕ) → s ≡ start → e ≡ start + r.extent → a ≡ read_ramp r 0 → b ≡ read_ramp r r.extent → s ∷ e ∷ a ∷ b ∷ [] ≡ segment parts S i
     unfolding segment read_in read_ramp ramp_of
-    segment_is a b p q = rw (p, q, es, er)
+    segment_is s e a b d f p q = rw (d, f, p, q, es, er)

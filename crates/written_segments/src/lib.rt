@@ -1,4 +1,5 @@
-// An arrangement's segments, written into a slice that the caller lends. For the crates above, which have accepted figures.
+// An arrangement's segments, written into a slice that the caller lends, and the numbers of one by itself. For the crates above, which
+// have accepted figures.
 #![tactic(auto)]
 
 ghost use Rattle.std.specs.Prelude.{◌++◌, ◌≡◌, length, drop, suc, ◌*◌, ◌≤◌, ◌<◌};
@@ -42,6 +43,14 @@ fn segment_at(arrangement: &Arrangement, i: usize, start: u32) -> Segment
         from: ramp.reading(0) as u32,
         to: ramp.reading(extent) as u32,
     }
+}
+
+// The four numbers of the segment at an index, by itself.
+pub fn numbers_at(arrangement: &Arrangement, i: usize) -> [u32; 4]
+    requires { i < count arrangement.now.figures.now.national arrangement.now.figures.now.roof arrangement.now.code }
+    ensures { let f = arrangement.now.figures.now in result ≡ segment parts (stretch f.national f.site f.roof arrangement.now.code) i }
+{
+    segment_at(arrangement, i, arrangement.start(i) as u32).numbers()
 }
 
 // Writes the segments of an arrangement at the front of the slice, one after the other.

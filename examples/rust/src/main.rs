@@ -80,6 +80,49 @@ impl Caller {
         (answer, out)
     }
 
+    /// Lends the first numbers of five marked ones for one segment. A refusal alters nothing of
+    /// them, an answer the four at their front.
+    fn segment(&mut self, item: usize, code: u8, index: usize, room: usize) -> (Answer, [u32; 5]) {
+        let mut out = [MARK; 5];
+        let answer = snow::segment(
+            &EMPTY_STORE,
+            &self.sheet,
+            item,
+            code,
+            index,
+            &mut out[..room],
+        );
+        let written = answer.value().map_or(0, |_| 4);
+        let kept = out.iter().skip(written).all(|&number| number == MARK);
+        self.check(kept, "snow_segment altered more than its segment", item);
+        (answer, out)
+    }
+
+    fn segment_count(&self, item: usize, code: u8) -> Answer {
+        snow::segment_count(&EMPTY_STORE, &self.sheet, item, code)
+    }
+
+    /// The arrangement that was made, as a board reads it that has space for one segment: the count,
+    /// then each index.
+    fn ask_one_by_one(&mut self, item: usize, code: u8, made: &[u32]) {
+        let answer = self.segment_count(item, code);
+        println!("COUNT {item} {code}: {}", answer.with_unit("segments"));
+        let count = made.len() / 4;
+        let same = answer == Answer::Value(count as u32);
+        self.check(same, "the count is another one", item);
+        for (index, four) in made.chunks_exact(4).enumerate() {
+            let (answer, out) = self.segment(item, code, index, 5);
+            let same = answer == Answer::Value(4) && out.starts_with(four);
+            self.check(same, "a single segment differs", item);
+        }
+        let (short, _) = self.segment(item, code, 0, 3);
+        let is_11 = short == Answer::refused(11, item);
+        self.check(is_11, "three numbers for a segment", item);
+        let (past, _) = self.segment(item, code, count, 3);
+        let is_12 = past == Answer::refused(12, item);
+        self.check(is_12, "an index at the count", item);
+    }
+
     fn load(&self, item: usize, code: u8, station: u32) -> Answer {
         let answer = snow::load(&EMPTY_STORE, &self.sheet, item, code, station);
         println!(
@@ -117,9 +160,14 @@ impl Caller {
             self.check(is_13, "refused, and not with 13", item);
             let same = self.load(item, code, 0) == answer;
             self.check(same, "a load where no arrangement is made", item);
+            let same = self.segment_count(item, code) == answer;
+            self.check(same, "segments where no arrangement is made", item);
+            let same = self.segment(item, code, usize::MAX, 3).0 == answer;
+            self.check(same, "a segment where no arrangement is made", item);
             return 0;
         };
         let numbers = 4 * count as usize;
+        self.ask_one_by_one(item, code, &out[..numbers]);
         for segment in out[..numbers].chunks_exact(4) {
             self.ask_segment(item, code, [segment[0], segment[1], segment[2], segment[3]]);
         }
@@ -175,6 +223,10 @@ impl Caller {
         let guard = snow::guard_force(&EMPTY_STORE, &self.sheet, item, 1);
         let (made, _) = self.make(item, 1, SLICE);
         self.check(made == refusal, "snow_make refuses otherwise", item);
+        let same = self.segment_count(item, 1) == refusal;
+        self.check(same, "snow_segment_count refuses otherwise", item);
+        let same = self.segment(item, 1, 0, 5).0 == refusal;
+        self.check(same, "snow_segment refuses otherwise", item);
         self.check(reading == refusal, "snow_load refuses otherwise", item);
         let same = overhang == refusal && guard == refusal;
         self.check(same, "a force is refused otherwise", item);

@@ -1,4 +1,4 @@
-//! The ten calls as safe functions.
+//! The twelve calls as safe functions.
 
 /// A number of bytes that holds the listing of any sheet.
 pub const LIST_ROOM: usize = 267_373;
@@ -92,6 +92,25 @@ mod ffi {
             out: *mut u32,
             room: usize,
         ) -> u32;
+        pub fn snow_segment_count(
+            store: *const u32,
+            numbers: usize,
+            sheet: *const u8,
+            length: usize,
+            item: usize,
+            code: u8,
+        ) -> u32;
+        pub fn snow_segment(
+            store: *const u32,
+            numbers: usize,
+            sheet: *const u8,
+            length: usize,
+            item: usize,
+            code: u8,
+            index: usize,
+            out: *mut u32,
+            room: usize,
+        ) -> u32;
         pub fn snow_load(
             store: *const u32,
             numbers: usize,
@@ -165,6 +184,30 @@ pub fn make(store: &[u32], sheet: &[u8], item: usize, code: u8, out: &mut [u32])
     let (room, out) = (out.len(), out.as_mut_ptr());
     // SAFETY: the slices have the lengths given, and the one written to is borrowed alone.
     unsafe { ffi::snow_make(store, numbers, sheet, length, item, code, out, room) }.into()
+}
+
+/// The count of segments of an arrangement.
+pub fn segment_count(store: &[u32], sheet: &[u8], item: usize, code: u8) -> Answer {
+    let (numbers, store) = (store.len(), store.as_ptr());
+    let (length, sheet) = (sheet.len(), sheet.as_ptr());
+    // SAFETY: both slices have the lengths given.
+    unsafe { ffi::snow_segment_count(store, numbers, sheet, length, item, code) }.into()
+}
+
+/// Writes one segment by its index to the first four numbers of `out`; 4.
+pub fn segment(
+    store: &[u32],
+    sheet: &[u8],
+    item: usize,
+    code: u8,
+    index: usize,
+    out: &mut [u32],
+) -> Answer {
+    let (numbers, store) = (store.len(), store.as_ptr());
+    let (length, sheet) = (sheet.len(), sheet.as_ptr());
+    let (room, out) = (out.len(), out.as_mut_ptr());
+    // SAFETY: the slices have the lengths given, and the one written to is borrowed alone.
+    unsafe { ffi::snow_segment(store, numbers, sheet, length, item, code, index, out, room) }.into()
 }
 
 /// The load at a station, in whole N/m².

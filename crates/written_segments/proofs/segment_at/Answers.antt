@@ -14,7 +14,7 @@ pub returns-clause-numbers : goal.returns-clause-numbers
 returns-clause-numbers c =
     let from = rw (← c.ramp.view_is) at c.reading.ensures.0 in
     let to = rw (← c.ramp.view_is) at c.reading-2.ensures.0 in
-    segment_is _ _ _ _ c.requires.start_value (c.ramp.view_is ∙ c.ramp-ramp.ensures) _ _ from to
+    segment_is _ _ _ _ c.requires.start_value (c.ramp.view_is ∙ c.ramp-ramp.ensures) _ _ _ _ (omega arith) (omega arith) from to
 
 pub returns-clause-end : goal.returns-clause-end
-returns-clause-end c = next_start _ _ _ _ c.requires.start_value (c.ramp.view_is ∙ c.ramp-ramp.ensures)
+returns-clause-end c = omega (arith, next_start _ _ _ _ c.requires.start_value (c.ramp.view_is ∙ c.ramp-ramp.ensures))

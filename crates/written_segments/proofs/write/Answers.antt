@@ -1,11 +1,11 @@
 use mathlib.Core.Path.{refl, ◌∙◌}
 use native.Mathlib.Numerals.{add-one}
-use Rattle.standard.specs.Stretch.{start_of, segments}
+use Rattle.standard.specs.Stretch.{start_of, segments, lists_joined}
 use Rattle.written_segments.proofs.Writing.{one_more}
 use Rattle.written_segments.proofs.write.Goals as goal
 
 pub loop-i-init : goal.loop-i-init
-unfolding start_of segments
+unfolding start_of segments lists_joined
 loop-i-init c = (refl, refl)
 
 pub loop-i-preserved : goal.loop-i-preserved
