@@ -52,6 +52,11 @@ def drift_roof(spans, *valleys):
     return item
 
 
+def from_right(spans):
+    """The same spans, drawn from the right."""
+    return [(right, left, width_right, width_left) for left, right, width_left, width_right in reversed(spans)]
+
+
 def cylindrical(rise, span):
     return struct.pack("<BII", 5, rise, span)
 
@@ -96,6 +101,7 @@ SAW = (60.0, 25.0, 2_400, 7_600)
 COAST = [(25.0, 25.0, 6_000, 5_500), (25.0, 25.0, 5_000, 5_000), (25.0, 25.0, 5_500, 6_000)]
 ROW = [(18.0 + span / 2, 30.0 - span / 2, 4_000 + 110 * span, 6_000 - 130 * span) for span in range(16)]
 DEEP = [(35.0, 45.0, 4_500, 4_000), (45.0, 35.0, 4_000, 4_500)]
+NAVES = [(25.0, 35.0, 3_000, 2_500), (15.0, 45.0, 2_000, 3_500), (30.0, 20.0, 2_800, 3_200)]
 SHEDS = [monopitch(10.0, width) for width in range(3_000, 7_000, 500)]
 STEPPED = [site(1_500), stepped(4_000, 2_500, 2, RIGHT), stepped(8_000, 3_500, 3, RIGHT), HALL]
 
@@ -176,6 +182,19 @@ SHEETS = {
     "drift_sixteen": sheet(
         site(720, cesl=210, situation=3, altitude=30),
         drift_roof(ROW, *[(600 + 120 * valley, 12_000 + 1_500 * valley) for valley in range(15)]),
+    ),
+    # One job drawn from either end
+    "hall_from_left": sheet(
+        site(1_200, cesl=220, situation=1, altitude=950),
+        pitched((20.0, 40.0), (4_000, 6_000), (0, 1)),
+        multi_span(*NAVES),
+        projection(900, 3_000, 8_000),
+    ),
+    "hall_from_right": sheet(
+        site(1_200, cesl=220, situation=1, altitude=950),
+        pitched((40.0, 20.0), (6_000, 4_000), (1, 0)),
+        multi_span(*from_right(NAVES)),
+        projection(900, 8_000, 3_000),
     ),
     # The quote desk's ceiling: 8 items, 2,048 bytes
     "desk_full": sheet(site(1_000), *SHEDS[:7]).ljust(2_048, b"\xee"),

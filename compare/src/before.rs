@@ -53,6 +53,11 @@ impl Before {
         }
     }
 
+    /// The load by the exact rule at a station of the roof.
+    pub fn exact(&self, station: u32) -> Option<Exact> {
+        self.exact.exact(station)
+    }
+
     /// The two loads of each segment, in their order.
     pub fn segments<'a>(&'a self, numbers: &'a [u32]) -> impl Iterator<Item = Returned> + 'a {
         let parts = self.whole.stretches().iter().zip(self.exact.stretches());

@@ -4,6 +4,7 @@ use std::hint::black_box;
 
 use second::calls::{self, LIST_ROOM};
 use second::canonical;
+use second::loads::Exact;
 use second::store::EMPTY;
 
 use crate::before::Before;
@@ -16,6 +17,7 @@ use crate::random::Random;
 use crate::segments;
 use crate::stores::Placed;
 use crate::tally::{Call, Tally, MISSING};
+use crate::turns;
 
 /// No number of a segment and no byte of a listing has this value.
 const MARK: u32 = 0xA5A5_A5A5;
@@ -169,8 +171,7 @@ impl Checker {
     /// Compares the verdicts and hands on the count of items. Every other question about a sheet
     /// comes behind its verdict, with the same store.
     pub fn verdict<'a>(&mut self, sheet: &'a [u8]) -> Asked<'a> {
-        self.before = None;
-        self.together.clear();
+        self.forget();
         let ours = calls::verdict(&self.store, sheet);
         let theirs = ffi::verdict(&self.store, sheet);
         let accepted = ours < calls::REFUSED;
@@ -191,7 +192,39 @@ impl Checker {
         });
         self.desk_verdict(asked, ours);
         self.layout(asked);
+        self.turn_round(asked, ours);
         asked
+    }
+
+    /// Leaves what is kept about a sheet, before another one is asked about.
+    pub fn forget(&mut self) {
+        self.before = None;
+        self.together.clear();
+    }
+
+    /// Compares the verdicts on the sheet with its roofs turned and holds them to its own; turned
+    /// twice it is the sheet again.
+    fn turn_round(&mut self, asked: Asked, verdict: u32) {
+        let Some(turned) = turns::turned_sheet(asked.sheet, verdict) else {
+            return;
+        };
+        let ours = calls::verdict(&self.store, &turned);
+        let theirs = ffi::verdict(&self.store, &turned);
+        let other = Asked {
+            sheet: &turned,
+            ..asked
+        };
+        self.settle(Call::Verdict, other, 0, [ours, theirs], || {
+            "verdict on a turned sheet".to_string()
+        });
+        let again = turns::turned_sheet(&turned, verdict);
+        let is_same = theirs == verdict && again.as_deref() == Some(asked.sheet);
+        self.tally.turns.sheet(verdict, is_same);
+        if !is_same {
+            let [own, turned] = [verdict, theirs].map(show);
+            let describe = || format!("verdict {own}, turned {turned}, turned twice {again:02x?}");
+            self.disagree(asked.sheet, describe);
+        }
     }
 
     /// Compares the verdicts on a sheet whose verdict is known beforehand; whether the library has
@@ -540,6 +573,12 @@ impl Checker {
         theirs
     }
 
+    /// The load by the exact rule at a station, where there is one.
+    pub fn exact(&mut self, asked: Asked, item: usize, code: u8, station: u32) -> Option<Exact> {
+        self.recall(asked, item, code);
+        self.before.as_ref()?.exact(station)
+    }
+
     /// Keeps what the loads of an arrangement are held against besides.
     fn recall(&mut self, asked: Asked, item: usize, code: u8) {
         let is_kept = |before: &Before| before.is_of(item, code);
@@ -647,12 +686,15 @@ impl Checker {
         alike
     }
 
+    /// The library's answer of making, and the slice.
+    pub fn made(&self, sheet: &[u8], item: usize, code: u8) -> (u32, [u32; 128]) {
+        let mut out = [MARK; 128];
+        (ffi::make(&self.store, sheet, item, code, &mut out), out)
+    }
+
     /// Whether the library makes the same segments of two sheets.
     pub fn same_segments(&self, sheets: [&[u8]; 2], item: usize, code: u8) -> bool {
-        let [first, second] = sheets.map(|sheet| {
-            let mut out = [MARK; 128];
-            (ffi::make(&self.store, sheet, item, code, &mut out), out)
-        });
+        let [first, second] = sheets.map(|sheet| self.made(sheet, item, code));
         first == second
     }
 

@@ -49,6 +49,8 @@ pub const GROUND_LOAD: Field = SITE_FIELDS[0];
 pub const REGION: Field = MAP_SITE_FIELDS[0];
 pub const ZONE: Field = MAP_SITE_FIELDS[1];
 const MAP_ALTITUDE: Field = MAP_SITE_FIELDS[6];
+/// The guards of a pitched roof.
+pub const GUARDS: [Field; 2] = [PITCHED_FIELDS[2], PITCHED_FIELDS[3]];
 /// The index of a stepped roof's upper item, and the side of that item.
 pub const UPPER: Field = STEPPED_FIELDS[2];
 pub const SIDE: Field = STEPPED_FIELDS[3];
@@ -510,14 +512,18 @@ fn cylindrical(random: &mut Random) -> Vec<u8> {
     item
 }
 
-/// A width close to the length of the drift at a step of a kind of roof.
-fn near_drift(random: &mut Random, kind: u8, step: u32) -> u32 {
-    let length = match kind {
+/// The length of the drift at a step of a kind of roof, where the roof is long enough.
+pub fn drift_length(kind: u8, step: u32) -> u32 {
+    match kind {
         PARAPET => (5 * step).min(15_000),
         SMALL_PROJECTION => 5 * step,
         _ => (2 * step).clamp(5_000, 15_000),
-    };
-    length + random.between(0, 2) - 1
+    }
+}
+
+/// A width close to that length.
+fn near_drift(random: &mut Random, kind: u8, step: u32) -> u32 {
+    drift_length(kind, step) + random.between(0, 2) - 1
 }
 
 /// The widths of a roof of kind 6, 7, 10, 11 or 12 with a drift, each behind the step that it is at.

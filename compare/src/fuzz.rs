@@ -13,6 +13,8 @@ use crate::tally::{LENGTHS, MISSING};
 
 /// One sheet in so many is asked about beside the library's result for it.
 const SAME_JOB: u64 = 32;
+/// Of one sheet in so many an item is asked about on the sheet with its roofs turned too.
+const TURNED: u64 = 3;
 /// Items of one sheet that are asked about closely.
 const CLOSE: usize = 3;
 /// The codes of the rules, those beside them, and some that never exist.
@@ -61,6 +63,9 @@ impl Fuzz {
             self.ask_anywhere(&sheet);
             if number % SAME_JOB == 0 {
                 self.same_job(&sheet);
+            }
+            if number % TURNED == 0 {
+                self.ask_turned(&sheet);
             }
         }
     }

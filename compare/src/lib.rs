@@ -14,6 +14,7 @@ pub mod reading;
 pub mod sheet;
 pub mod steps;
 pub mod store;
+pub mod turned;
 
 #[cfg(test)]
 mod corpus;

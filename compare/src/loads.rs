@@ -248,7 +248,8 @@ impl<const PARTS: u64> Rounded<PARTS> {
 
 /// A load that is not rounded, a fraction of millionths of a N/m².
 ///
-/// The largest numerator is that of μs + μw within a ramp, below 2^100.
+/// The largest numerator is that of μs + μw within a ramp, below 2^100. Its product with the
+/// denominator of the even load that it meets is below 2^123.
 #[derive(Clone, Copy, Debug)]
 pub struct Exact {
     numerator: u128,
@@ -271,6 +272,14 @@ impl Load for Exact {
             numerator: u128::from(mu.numerator) * weight,
             denominator: u128::from(mu.denominator),
         }
+    }
+}
+
+impl Exact {
+    /// Whether two loads are one number, on roofs of the kinds that can be turned: their cross products
+    /// are below 2^112. Those of other kinds may be too large.
+    pub fn is_same_number(self, other: Self) -> bool {
+        self.numerator * other.denominator == other.numerator * self.denominator
     }
 }
 

@@ -25,6 +25,7 @@ mod sets;
 mod stores;
 mod tally;
 mod tenths;
+mod turns;
 
 use std::env;
 use std::process::ExitCode;
@@ -38,7 +39,7 @@ use second::calls as ffi;
 const SEED: u64 = 20_031_991;
 const SHEETS: u64 = 48_000;
 /// Each with a sound store. Those up to request A7 have no dated sites, so it changes no answer.
-const SWEEPS: [fn(&mut Fuzz); 15] = [
+const SWEEPS: [fn(&mut Fuzz); 16] = [
     Fuzz::sweep,
     Fuzz::sweep_map,
     Fuzz::sweep_codes,
@@ -54,6 +55,7 @@ const SWEEPS: [fn(&mut Fuzz); 15] = [
     Fuzz::sweep_parapets,
     Fuzz::sweep_layouts,
     Fuzz::sweep_segments,
+    Fuzz::sweep_turns,
 ];
 /// A run of the usual size is to reach this.
 const LEAST: u64 = 1_000_000;

@@ -40,7 +40,7 @@ fn way(values: [u64; 3]) -> usize {
 }
 
 /// 0 where a number is below another, 1 where they are equal, and 2 where it is above.
-fn order(number: u32, other: u32) -> usize {
+pub fn order(number: u32, other: u32) -> usize {
     (number.cmp(&other) as i8 + 1) as usize
 }
 

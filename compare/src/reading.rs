@@ -44,17 +44,17 @@ impl<const PARTS: u64> Arrangement<Rounded<PARTS>> {
 }
 
 impl Arrangement<Exact> {
+    /// The load by the exact rule at a station, the greater one where two segments meet. None past
+    /// the roof's end.
+    pub fn exact(&self, station: u32) -> Option<Exact> {
+        let station = i32::try_from(station).ok()?;
+        let loads = self.at(station).map(|stretch| stretch.exact(station));
+        loads.reduce(Exact::larger)
+    }
+
     /// How far a load at a station lies above the exact rule, in millionths of a N/m² rounded
     /// down. None where it lies below, or past the roof's end.
-    ///
-    /// The exact rule has the greater of two loads, so the lesser distance counts.
     pub fn distance(&self, station: u32, load: u32) -> Option<u64> {
-        let station = i32::try_from(station).ok()?;
-        let mut least = None;
-        for stretch in self.at(station) {
-            let distance = stretch.exact(station).distance(load)?;
-            least = Some(least.map_or(distance, |other: u64| other.min(distance)));
-        }
-        least
+        self.exact(station)?.distance(load)
     }
 }

@@ -358,7 +358,7 @@ fn is_site(kind: u8) -> bool {
 
 /// The length that an item of this kind has, a site without a day. A multi-span roof says so in its
 /// count byte.
-fn length_of(kind: u8, rest: &[u8]) -> Result<usize, u8> {
+pub fn length_of(kind: u8, rest: &[u8]) -> Result<usize, u8> {
     let spans = || rest.first().copied().map(usize::from).ok_or(number::LENGTH);
     Ok(match kind {
         1 => 14,

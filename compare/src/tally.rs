@@ -17,6 +17,7 @@ use crate::layouts::{self, Layout};
 use crate::parapets::{self, Parapet, SmallProjection, ALONE, WAYS};
 use crate::segments;
 use crate::stores;
+use crate::turns::{self, Case, Turn};
 
 /// The twelve calls, in the order of the header.
 pub const CALLS: [&str; 12] = [
@@ -121,6 +122,7 @@ pub struct Tally {
     pub parapets: ParapetTally,
     pub layouts: LayoutTally,
     pub segments: SegmentTally,
+    pub turns: TurnTally,
     disagreements: u64,
 }
 
@@ -1052,6 +1054,96 @@ impl SegmentTally {
     }
 }
 
+/// What was asked about roofs turned round.
+#[derive(Default)]
+pub struct TurnTally {
+    /// Sheets with roofs that can be turned, and those whose verdict stays, by number, 0 for accepted.
+    sheets: u64,
+    verdicts: [u64; MAX_NUMBER + 1],
+    /// Arrangements that are the same from either end, by kind, code and case.
+    cases: BTreeMap<(u8, u8, Case), u64>,
+    /// Those of them where the turned roof has other segments.
+    other: u64,
+    /// Stations at which their loads are the same, also by the exact rule, or past the end.
+    stations: u64,
+    /// Codes that aren't made, which both sheets refuse alike.
+    pub not_made: u64,
+    /// Refusals that were known beforehand, by number.
+    pub known: [u64; MAX_NUMBER + 1],
+    /// Answers about stepped roofs on the left and on the right of turned ones that stay.
+    pub lower: [u64; 2],
+    /// Drifted arrangements of arches that aren't the same from either end, and their stations with
+    /// other loads.
+    pub arches: u64,
+    pub arch_stations: u64,
+}
+
+impl TurnTally {
+    /// Counts a sheet and the turned one.
+    pub fn sheet(&mut self, verdict: u32, is_same: bool) {
+        self.sheets += 1;
+        self.verdicts[number_of(verdict)] += u64::from(is_same);
+    }
+
+    /// Counts an arrangement that is the same from either end.
+    pub fn turn(&mut self, turn: &Turn) {
+        let case = (turn.kind, turn.code, turn.case);
+        *self.cases.entry(case).or_default() += 1;
+        self.other += u64::from(turn.is_other);
+        self.stations += turn.stations as u64;
+    }
+
+    /// Whether each refusal of a roof was met, and known as often as it is met in turn.
+    fn met_refusals(&self) -> bool {
+        let is_met = |&(number, count): &(usize, u64)| {
+            self.verdicts[number] > 0 && self.known[number] == count
+        };
+        turns::REFUSALS.iter().all(is_met)
+    }
+
+    pub fn is_good(&self) -> bool {
+        let met = [self.other, self.not_made, self.arches];
+        self.sheets == self.verdicts.iter().sum()
+            && self.verdicts[0] > 0
+            && self.met_refusals()
+            && self.cases.len() == turns::CASES
+            && met.iter().chain(&self.lower).all(|&count| count > 0)
+    }
+
+    fn print(&self) {
+        let accepted = self.verdicts[0];
+        let same = self.verdicts.iter().sum::<u64>();
+        println!(
+            "TURNED {} sheets, with their verdict accepted {accepted}, refused {}",
+            self.sheets,
+            same - accepted
+        );
+        for (number, _) in turns::REFUSALS {
+            let (refused, known) = (self.verdicts[number], self.known[number]);
+            println!("  refused by {number} {refused}, known beforehand {known}");
+        }
+        println!(
+            "  arrangements the same from the other end {}, with other segments {}, at {} stations",
+            self.cases.values().sum::<u64>(),
+            self.other,
+            self.stations
+        );
+        println!(
+            "    kinds, codes and cases {} of {}, each at least {} times",
+            self.cases.len(),
+            turns::CASES,
+            rarest(self.cases.values())
+        );
+        println!("  codes that aren't made refused alike {}", self.not_made);
+        let [left, right] = self.lower;
+        println!("  as before beside turned roofs {left} on the left, {right} on the right");
+        println!(
+            "  arches that aren't the same from the other end {}, at {} stations",
+            self.arches, self.arch_stations
+        );
+    }
+}
+
 fn rarest<'a>(counts: impl IntoIterator<Item = &'a u64>) -> u64 {
     counts.into_iter().copied().min().unwrap_or(0)
 }
@@ -1091,6 +1183,7 @@ impl Tally {
             parapets: ParapetTally::default(),
             layouts: LayoutTally::default(),
             segments: SegmentTally::default(),
+            turns: TurnTally::default(),
             disagreements: 0,
         }
     }
@@ -1174,9 +1267,9 @@ impl Tally {
     /// No disagreement, and every refusal, every slice length, every missing index, every place of
     /// the map, every situation, every valley, every number of a pair, every drop, at either eave an
     /// overhang by the other slope's load, every edge of the desk's ceiling, either side of every
-    /// kind of upper item, every length of a circle, and of national figures, of parapets, of layouts
-    /// and of single segments what `SetTally`, `ParapetTally`, `LayoutTally` and `SegmentTally` count
-    /// was met.
+    /// kind of upper item, every length of a circle, and of national figures, of parapets, of layouts,
+    /// of single segments and of turned roofs what `SetTally`, `ParapetTally`, `LayoutTally`,
+    /// `SegmentTally` and `TurnTally` count was met.
     pub fn is_good(&self) -> bool {
         self.agrees()
             && self.refused[1..].iter().all(|&count| count > 0)
@@ -1197,6 +1290,7 @@ impl Tally {
             && self.parapets.is_good()
             && self.layouts.is_good()
             && self.segments.is_good()
+            && self.turns.is_good()
     }
 
     pub fn print(&self) {
@@ -1226,6 +1320,7 @@ impl Tally {
         self.parapets.print();
         self.layouts.print();
         self.segments.print();
+        self.turns.print();
         self.print_lengths();
         self.print_missing();
         println!("DISAGREEMENTS {}", self.disagreements);

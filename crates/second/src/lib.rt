@@ -7,6 +7,7 @@ mod extent;
 mod force;
 mod load_case;
 mod loads;
+mod turning;
 
 pub use codes::exists;
 pub use extent::roof_end;
@@ -14,3 +15,4 @@ pub use force::{guard_force, overhang};
 pub use load_case::LoadCase;
 pub use loads::{Ground, TENTHS, WHOLE};
 pub use second_numbers::Segment;
+pub use turning::{turned, turned_code};

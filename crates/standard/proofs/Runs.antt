@@ -227,7 +227,7 @@ module _ (S : ℕ → Stretch) (p : ℕ) where
             record { at = v.at; below = v.below; held = v.held; read = omega (arith, reads_less (suc n) v.at v.below) }
 
   -- The same of the exact rule: none of the first n lies above the greatest, and the greatest is that of one of them.
-  exact_less : (n i : ℕ) → ((j : ℕ) → j < n → Readable (S j)) → i < n → Below (exact_reading_at S p i) (exact_greatest S p n)
+  pub exact_less : (n i : ℕ) → ((j : ℕ) → j < n → Readable (S j)) → i < n → Below (exact_reading_at S p i) (exact_greatest S p n)
   unfolding exact_greatest
   exact_less zero i f h = absurd (omega arith)
   exact_less (suc n) i f h =

@@ -25,7 +25,7 @@ pub fn compare_case(report: &mut Report, store: &[u32], case: &Case) {
                 other_code,
                 number,
             };
-            return refusal.compare_every_call(&given, &mut report.roofs.refusals);
+            return report.roofs.compare_refused(&given, refusal);
         }
         Question::Number { place, figure } => {
             Made::new(&given, code).numbers.get(place) == Some(&figure)

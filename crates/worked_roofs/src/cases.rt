@@ -4,6 +4,7 @@ use crate::given::Given;
 use crate::made::Made;
 use crate::refusals::{ExpectedRefusal, compare_beyond};
 use crate::tally::Tally;
+use crate::turned::{compare_turned, compare_turned_refusal};
 use figures::National;
 use second::LoadCase;
 use stored_lines::Pitches;
@@ -23,7 +24,7 @@ impl Tally {
                 other_code: 99,
                 number: NO_SET_BEGUN,
             };
-            refusal.compare_every_call(given, &mut self.refusals);
+            self.compare_refused(given, refusal);
             return;
         };
         // The codes of documents 01 and 02, and some that no roof has.
@@ -59,6 +60,13 @@ impl Tally {
         self.drops.add_segments(&made, &expected);
         compare_beyond(given, &expected, &mut self.refusals);
         self.readings.add_segments(given, &expected);
+        compare_turned(given, &expected, &mut self.turned);
+    }
+
+    // Figures that every call refuses, also of the roof turned round.
+    pub fn compare_refused(&mut self, given: &Given<'_>, refusal: ExpectedRefusal) {
+        refusal.compare_every_call(given, &mut self.refusals);
+        compare_turned_refusal(given, refusal, &mut self.turned);
     }
 
     // A guarded slope at a site, at many pitches.

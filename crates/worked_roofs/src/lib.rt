@@ -1,5 +1,5 @@
 // Roofs against the second calculation: each at every site, in every job and in every code, through the maker, the reader and the
-// local forces, and what is counted of it.
+// local forces, and as it is drawn from its other end; and what is counted of it.
 #![tactic(auto)]
 
 mod cases;
@@ -10,6 +10,7 @@ mod made;
 mod readings;
 mod refusals;
 mod tally;
+mod turned;
 
 pub use given::Given;
 pub use made::Made;

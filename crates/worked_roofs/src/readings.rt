@@ -73,7 +73,7 @@ fn falls(given: &Given<'_>, code: u8, station: u32, load: u32) -> bool {
 
 // The stations of a segment: its ends, a quarter millimetre beside them, and two places between, scattered by the count of readings
 // before it.
-fn stations(segment: &Segment, count: u64) -> [u32; 6] {
+pub fn stations(segment: &Segment, count: u64) -> [u32; 6] {
     let (start, end) = (segment.start, segment.end);
     if end <= start {
         return [start; 6];

@@ -11,6 +11,7 @@ pub struct Tally {
     pub drops: Drops,
     pub refusals: Compared,
     pub readings: Readings,
+    pub turned: Compared,
     pub forces: Compared,
 }
 
@@ -22,6 +23,7 @@ impl fmt::Display for Tally {
             drops,
             refusals,
             readings,
+            turned,
             forces,
         } = *self;
         writeln!(
@@ -31,6 +33,7 @@ impl fmt::Display for Tally {
         writeln!(f, "SEGMENT LOADS {drops}")?;
         writeln!(f, "REFUSALS {refusals}")?;
         writeln!(f, "{readings}")?;
+        writeln!(f, "TURNED {turned}")?;
         write!(f, "FORCES {forces}")
     }
 }

@@ -1,0 +1,12 @@
+pub mod Answered
+pub mod Codes
+pub mod Ends
+pub mod Figures
+pub mod LocalForces
+pub mod Mirrors
+pub mod OtherEnd
+pub mod Roofs
+pub mod Rows
+pub mod Rules
+pub mod Shapes
+pub mod SpanRows
