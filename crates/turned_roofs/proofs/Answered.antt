@@ -72,15 +72,15 @@ module _ (store : List ℕ) (site : Site) (roof : Roof) (code : ℕ) where
   -- of accepted figures, under the national ones in use
   pub turned_in_use :
       figures_refusal store site roof ≡ 0 → exists site roof code ≡ true → is_turned (kind_of roof.shape) ≡ true
-      → SameFromEnd (national_for store site) site roof code (turned roof) (turned_code roof.shape code)
+      → SameFromEnd (national_for store site) site roof code (turned roof) (turned_code (kind_of roof.shape) code)
   turned_in_use h e t =
       let f = figures_accepted store site roof h in
       turned_from_end (national_for store site) site roof code f.national f.site f.roof e t
 
   -- "the load at a position must equal the load at the roof's end less that position"
-  pub turned_answers : is_turned (kind_of roof.shape) ≡ true → AnsweredAlike store site roof code (turned roof) (turned_code roof.shape code)
+  pub turned_answers : is_turned (kind_of roof.shape) ≡ true → AnsweredAlike store site roof code (turned roof) (turned_code (kind_of roof.shape) code)
   turned_answers t =
-      alike store site roof (turned roof) (turned_refusal roof) code (turned_code roof.shape code) (turned_exists roof code site)
+      alike store site roof (turned roof) (turned_refusal roof) code (turned_code (kind_of roof.shape) code) (turned_exists roof code site)
       (λ f e. turned_from_end (national_for store site) site roof code f.national f.site f.roof e t)
 
   -- of kinds 9 and 12 too

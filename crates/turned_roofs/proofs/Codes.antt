@@ -10,13 +10,13 @@ use Rattle.std.proofs.lemmas.Bool.{false_from_ne_true}
 use Rattle.figures.proofs.Laws.{both, within_in}
 use Rattle.standard.specs.Codes.{persistent_by, drift_kind, drifts_in, accidental, base_code, names_drift, drift_named, exists_in}
 use Rattle.standard.proofs.Codes.{persistent_codes, base_persistent}
-use Rattle.turned_roofs.specs.Turned.{exchanged, mirrored_code}
+use Rattle.turned_roofs.specs.Turned.{exchanged, turned_code, mirrored_code}
 
 -- codes 1, 2, 3, 11, 12 and 13 of kind 3, and of kind 9 with 4 spans those of its three valleys
 pub codes_worked :
     map (mirrored_code 3 0) (1 ∷ 2 ∷ 3 ∷ 11 ∷ 12 ∷ 13 ∷ []) ++ map (mirrored_code 9 3) (1 ∷ 2 ∷ 11 ∷ 31 ∷ 32 ∷ 33 ∷ [])
     ≡ 1 ∷ 3 ∷ 2 ∷ 11 ∷ 13 ∷ 12 ∷ 1 ∷ 2 ∷ 11 ∷ 33 ∷ 32 ∷ 31 ∷ []
-unfolding mirrored_code exchanged
+unfolding mirrored_code turned_code exchanged
 codes_worked = refl
 
 -- what holds of each pair of codes that change places, and of every other code with itself, holds of a code and the exchanged one
@@ -95,7 +95,7 @@ pub record SameCode (kind drifts c d : ℕ) : Type 0 where
   pub back : mirrored_code kind drifts d ≡ c
 
 pub code_mirrored : (kind drifts code : ℕ) → SameCode kind drifts code (mirrored_code kind drifts code)
-unfolding mirrored_code
+unfolding mirrored_code turned_code
 code_mirrored kind drifts code = go (drift_kind kind && names_drift drifts code) (eqb kind 3) refl refl
   where
     go :

@@ -6,7 +6,7 @@ use mathlib.Core.Path.{◌≡◌, refl}
 use lib.ListN.{replicate}
 use Rattle.std.specs.Prelude.{None}
 use Rattle.figures.specs.National.{recommended_figures}
-use Rattle.figures.specs.RoofRules.{roof_of}
+use Rattle.figures.specs.RoofRules.{kind_of, roof_of}
 use Rattle.figures.specs.Spans.{flat, level, no_spans, slope_of}
 use Rattle.figures.specs.declared.site.Site.{Site}
 use Rattle.figures.specs.declared.slopes.Slope.{Slope}
@@ -67,7 +67,7 @@ site sk = record { sk = sk; ce = 100; ct = 100; cesl = 200; situation = 1; altit
 abbrev both_ends : ℕ → Roof → ℕ → ℕ → List ℕ
 both_ends sk roof code p =
     load_at recommended_figures (site sk) roof code p
-    ∷ load_at recommended_figures (site sk) (turned roof) (turned_code roof.shape code) (end_of roof - p)
+    ∷ load_at recommended_figures (site sk) (turned roof) (turned_code (kind_of roof.shape) code) (end_of roof - p)
     ∷ []
 
 abbrev read_computed : List ℕ

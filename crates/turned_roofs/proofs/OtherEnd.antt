@@ -24,7 +24,7 @@ use Rattle.standard.proofs.Codes.{named_base}
 use Rattle.standard.proofs.Demand.{well_formed}
 use Rattle.turned_roofs.specs.Mirror.{MirrorRun}
 use Rattle.turned_roofs.specs.OtherEnd.{SameFromEnd}
-use Rattle.turned_roofs.specs.Turned.{mirrored, is_mirrored, mirrored_code}
+use Rattle.turned_roofs.specs.Turned.{mirrored, is_mirrored, turned_code, mirrored_code}
 use Rattle.turned_roofs.proofs.Codes.{exchanged_keeps, named_back, drifts_add_up, code_mirrored, base_names, none_named}
 use Rattle.turned_roofs.proofs.Ends.{pitched_mirror, projection_mirror, projection_count_mirrored, small_projection_mirror, small_projection_count}
 use Rattle.turned_roofs.proofs.Mirrors.{segment_mirrored, greatest_mirrored, exact_greatest_mirrored}
@@ -44,7 +44,7 @@ module _ (n code : ℕ) where
       (record { named = e ∙ sym m; valley = λ t. drifts_add_up (n - 1) code e; other = λ f. clash e f })
 
   span_codes : SpanCodes n (base_code code) (base_code (mirrored_code 9 (n - 1) code))
-  unfolding mirrored_code
+  unfolding mirrored_code turned_code
   span_codes = go (names_drift (n - 1) code) refl
     where
       go : (b : Bool) → names_drift (n - 1) code ≡ b → SpanCodes n (base_code code) (base_code (cond b (61 + (n - 1) - code) code))
@@ -66,7 +66,7 @@ module _ (national : National) (factor sk situation code : ℕ) where
       → FromEnd shape spans (mirrored shape spans) (mirrored_code (kind_of shape) (drifts_of shape) code)
 
   spans_case : (n : ℕ) (drifts : Bool) → Shown (MultiSpan n drifts)
-  unfolding mirrored shape_refusal stretch_in count_in mirrored_code
+  unfolding mirrored shape_refusal stretch_in count_in mirrored_code turned_code
   spans_case n true spans t h e =
       let k = enough true spans n h in
       let c = span_codes n code in
@@ -84,7 +84,7 @@ module _ (national : National) (factor sk situation code : ℕ) where
       }
 
   from_end : (shape : Shape) → Shown shape
-  unfolding mirrored stretch_in count_in mirrored_code
+  unfolding mirrored stretch_in count_in mirrored_code turned_code
   from_end =
       every_shape Shown
       (λ left right spans t h e.

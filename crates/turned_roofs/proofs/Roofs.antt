@@ -37,7 +37,7 @@ module _ (roof : Roof) (t : is_turned (kind_of roof.shape) ≡ true) where
   unfolding turned
   turned_is = rw t
 
-  turned_code_is : (code : ℕ) → turned_code roof.shape code ≡ mirrored_code (kind_of roof.shape) (drifts_of roof.shape) code
+  turned_code_is : (code : ℕ) → turned_code (kind_of roof.shape) code ≡ mirrored_code (kind_of roof.shape) (drifts_of roof.shape) code
   unfolding turned_code mirrored_code
   turned_code_is code = rw (no_drifts roof.shape t)
 
@@ -82,7 +82,7 @@ module _ (roof : Roof) where
 
   module _ (code : ℕ) where
     -- and the code
-    pub turned_code_twice : turned_code (turned roof).shape (turned_code roof.shape code) ≡ code
+    pub turned_code_twice : turned_code (kind_of (turned roof).shape) (turned_code (kind_of roof.shape) code) ≡ code
     unfolding turned_code
     turned_code_twice = rw same_kind (go (eqb (kind_of roof.shape) 3))
       where
@@ -91,7 +91,7 @@ module _ (roof : Roof) where
         go false = refl
 
     -- an arrangement exists where the roof has it
-    pub turned_exists : (site : Site) → exists site (turned roof) (turned_code roof.shape code) ≡ exists site roof code
+    pub turned_exists : (site : Site) → exists site (turned roof) (turned_code (kind_of roof.shape) code) ≡ exists site roof code
     unfolding exists turned_code
     turned_exists site = rw (same_kind, same_drifts) (go (eqb (kind_of roof.shape) 3) refl)
       where
@@ -108,5 +108,5 @@ module _ (roof : Roof) where
 module _ (national : National) (site : Site) (roof : Roof) (code : ℕ)
     (hn : NationalIn national) (hs : site_refusal site ≡ 0) (hr : roof_refusal roof ≡ 0)
     (he : exists site roof code ≡ true) (t : is_turned (kind_of roof.shape) ≡ true) where
-  pub turned_from_end : SameFromEnd national site roof code (turned roof) (turned_code roof.shape code)
+  pub turned_from_end : SameFromEnd national site roof code (turned roof) (turned_code (kind_of roof.shape) code)
   turned_from_end = rw (turned_is roof t, turned_code_is roof t code) (same_from_end national site roof code hn hs hr he (rw t))

@@ -47,8 +47,8 @@ unfoldable pub exchanged : ℕ → ℕ
 exchanged code = cond (eqb code 2) 3 (cond (eqb code 3) 2 (cond (eqb code 12) 13 (cond (eqb code 13) 12 code)))
 
 -- "On kind 3"; every other kind keeps its codes
-unfoldable pub turned_code : Shape → ℕ → ℕ
-turned_code shape code = cond (eqb (kind_of shape) 3) (exchanged code) code
+unfoldable pub turned_code : ℕ → ℕ → ℕ
+turned_code kind code = cond (eqb kind 3) (exchanged code) code
 
 -- the slopes of kind 3 are 1 left and 2 right; no other number names one
 unfoldable pub slope_exchanged : ℕ → ℕ
@@ -62,4 +62,4 @@ is_mirrored kind = is_turned kind || eqb kind 9 || eqb kind 12
 -- keeps its code
 unfoldable pub mirrored_code : ℕ → ℕ → ℕ → ℕ
 mirrored_code kind drifts code =
-    cond (drift_kind kind && names_drift drifts code) (61 + drifts - code) (cond (eqb kind 3) (exchanged code) code)
+    cond (drift_kind kind && names_drift drifts code) (61 + drifts - code) (turned_code kind code)

@@ -2,6 +2,7 @@
 #![tactic(auto)]
 
 ghost use Rattle.std.specs.Prelude.{◌≡◌};
+ghost use Rattle.figures.specs.RoofRules.{kind_of};
 ghost use Rattle.turned_roofs.specs.Turned.{row_reversed, spans_reversed, turned, exchanged, turned_code};
 
 use figures::{ProjectionRoof, Roof, Shape, Spans};
@@ -62,7 +63,7 @@ pub fn turned(roof: Roof) -> Roof
 // The code that the turned roof has for a code of a roof: 2 and 3 change places on kind 3, 12 and 13 as well.
 #[tactic(auto, unfolding(crate::specs::Turned::turned_code, crate::specs::Turned::exchanged))]
 pub fn turned_code(shape: Shape, code: u8) -> u8
-    ensures { result ≡ turned_code shape code }
+    ensures { result ≡ turned_code (kind_of shape) code }
 {
     match (shape, code) {
         (Shape::Pitched { .. }, 2) => 3,
