@@ -15,6 +15,9 @@ use crate::tally::{LENGTHS, MISSING};
 const SAME_JOB: u64 = 32;
 /// Of one sheet in so many an item is asked about on the sheet with its roofs turned too.
 const TURNED: u64 = 3;
+/// Of one sheet in so many an item is asked about before and after its pitches are moved too. It isn't
+/// one of the former sheets.
+const MOVED: u64 = 3;
 /// Items of one sheet that are asked about closely.
 const CLOSE: usize = 3;
 /// The codes of the rules, those beside them, and some that never exist.
@@ -66,6 +69,9 @@ impl Fuzz {
             }
             if number % TURNED == 0 {
                 self.ask_turned(&sheet);
+            }
+            if number % MOVED == 1 {
+                self.ask_moved(&sheet);
             }
         }
     }

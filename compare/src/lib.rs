@@ -10,6 +10,7 @@ pub mod forces;
 pub mod ground;
 pub mod listing;
 pub mod loads;
+pub mod moved;
 pub mod reading;
 pub mod sheet;
 pub mod steps;

@@ -281,6 +281,14 @@ impl Exact {
     pub fn is_same_number(self, other: Self) -> bool {
         self.numerator * other.denominator == other.numerator * self.denominator
     }
+
+    /// How far two loads lie apart, a fraction of millionths of a N/m², on roofs of kinds 2, 3, 4 and 9
+    /// with codes below 30: 375 times its numerator is below 2^120.
+    pub fn apart(self, other: Self) -> [u128; 2] {
+        let first = self.numerator * other.denominator;
+        let second = other.numerator * self.denominator;
+        [first.abs_diff(second), self.denominator * other.denominator]
+    }
 }
 
 impl Add for Exact {

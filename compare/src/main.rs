@@ -17,6 +17,7 @@ mod halls;
 mod jobs;
 mod layouts;
 mod measure;
+mod moves;
 mod pairs;
 mod parapets;
 mod random;
@@ -39,7 +40,7 @@ use second::calls as ffi;
 const SEED: u64 = 20_031_991;
 const SHEETS: u64 = 48_000;
 /// Each with a sound store. Those up to request A7 have no dated sites, so it changes no answer.
-const SWEEPS: [fn(&mut Fuzz); 16] = [
+const SWEEPS: [fn(&mut Fuzz); 17] = [
     Fuzz::sweep,
     Fuzz::sweep_map,
     Fuzz::sweep_codes,
@@ -56,6 +57,7 @@ const SWEEPS: [fn(&mut Fuzz); 16] = [
     Fuzz::sweep_layouts,
     Fuzz::sweep_segments,
     Fuzz::sweep_turns,
+    Fuzz::sweep_moves,
 ];
 /// A run of the usual size is to reach this.
 const LEAST: u64 = 1_000_000;

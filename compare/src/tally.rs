@@ -14,6 +14,7 @@ use crate::eaves::Eave;
 use crate::halls::{self, Step};
 use crate::jobs::{self, Job};
 use crate::layouts::{self, Layout};
+use crate::moves::{self, Move, Way};
 use crate::parapets::{self, Parapet, SmallProjection, ALONE, WAYS};
 use crate::segments;
 use crate::stores;
@@ -71,6 +72,8 @@ const SHEET_REFUSALS: [usize; 16] = [1, 2, 3, 4, 5, 6, 7, 8, 9, 10, 14, 15, 16, 
 const STEPPED_CODES: usize = 11;
 /// A load lies less than this above the exact rule, in millionths of a N/m².
 const DISTANCE: u64 = 1_200_000;
+/// The greatest difference beyond X/375 is at least this, in thousandths of a N/m².
+const NEAR: u64 = 990;
 /// An overhang lies less than this above the rule over the unrounded load, in millionths of a N/m.
 const EAVE_DISTANCE: u64 = 10_000_000;
 /// Disagreements that are written out.
@@ -123,6 +126,7 @@ pub struct Tally {
     pub layouts: LayoutTally,
     pub segments: SegmentTally,
     pub turns: TurnTally,
+    pub moves: MoveTally,
     disagreements: u64,
 }
 
@@ -1144,6 +1148,83 @@ impl TurnTally {
     }
 }
 
+/// What was asked about pitches moved by a tenth of a degree.
+#[derive(Default)]
+pub struct MoveTally {
+    /// Sheets with a roof's pitches moved that are accepted.
+    pub sheets: u64,
+    /// Those refused by 8 and by 9 as they must be, and those of them that were known beforehand.
+    pub refused: [u64; moves::REFUSALS.len()],
+    pub known: [u64; moves::REFUSALS.len()],
+    /// Arrangements whose loads lie within the bound, by kind, code and way.
+    cases: BTreeMap<(u8, u8, Way), u64>,
+    /// Those of them with some other load, and those with loads just X/375 apart by the exact rule.
+    other: u64,
+    met: u64,
+    /// Codes that aren't made, before and after.
+    pub not_made: u64,
+    /// Pairs of loads read at a station, and of loads of segments.
+    readings: u64,
+    ends: u64,
+    /// The greatest difference of such a pair beyond X/375, in thousandths of a N/m².
+    beyond: u64,
+    /// Pairs of loads of kind 6 across 15.0°, and those of them that no bound holds.
+    pub across: u64,
+    pub jumps: u64,
+}
+
+impl MoveTally {
+    /// Counts an arrangement before and after pitches are moved.
+    pub fn count(&mut self, moved: &Move) {
+        let case = (moved.kind, moved.code, moved.way);
+        *self.cases.entry(case).or_default() += 1;
+        self.other += u64::from(moved.is_other);
+        self.met += u64::from(moved.is_met);
+        self.readings += moved.readings as u64;
+        self.ends += moved.ends as u64;
+        self.beyond = self.beyond.max(moved.beyond);
+    }
+
+    pub fn is_good(&self) -> bool {
+        let met = [self.sheets, self.other, self.met, self.not_made, self.jumps];
+        self.known == moves::KNOWN
+            && self.cases.len() == moves::CASES
+            && self.beyond >= NEAR
+            && met.iter().all(|&count| count > 0)
+    }
+
+    fn print(&self) {
+        let [field, valley] = self.refused;
+        println!(
+            "MOVED {} sheets accepted, refused by 8 {field}, by 9 {valley}, known beforehand {:?}",
+            self.sheets, self.known
+        );
+        println!(
+            "  arrangements within the bound {}, with other loads {}, just X/375 apart {}",
+            self.cases.values().sum::<u64>(),
+            self.other,
+            self.met
+        );
+        let (readings, ends) = (self.readings, self.ends);
+        println!("    pairs of readings {readings}, of loads of segments {ends}");
+        println!(
+            "    kinds, codes and ways {} of {}, each at least {} times",
+            self.cases.len(),
+            moves::CASES,
+            rarest(self.cases.values())
+        );
+        println!(
+            "    apart by X/375 and at most {:.3} N/m² more",
+            self.beyond as f64 / 1_000.0
+        );
+        println!("  codes that aren't made refused alike {}", self.not_made);
+        println!(
+            "  kind 6 across 15.0° {} pairs of readings, {} of them X/375 + 1.2 N/m² apart or more",
+            self.across, self.jumps
+        );
+    }
+}
+
 fn rarest<'a>(counts: impl IntoIterator<Item = &'a u64>) -> u64 {
     counts.into_iter().copied().min().unwrap_or(0)
 }
@@ -1184,6 +1265,7 @@ impl Tally {
             layouts: LayoutTally::default(),
             segments: SegmentTally::default(),
             turns: TurnTally::default(),
+            moves: MoveTally::default(),
             disagreements: 0,
         }
     }
@@ -1268,8 +1350,8 @@ impl Tally {
     /// the map, every situation, every valley, every number of a pair, every drop, at either eave an
     /// overhang by the other slope's load, every edge of the desk's ceiling, either side of every
     /// kind of upper item, every length of a circle, and of national figures, of parapets, of layouts,
-    /// of single segments and of turned roofs what `SetTally`, `ParapetTally`, `LayoutTally`,
-    /// `SegmentTally` and `TurnTally` count was met.
+    /// of single segments, of turned roofs and of moved pitches what `SetTally`, `ParapetTally`,
+    /// `LayoutTally`, `SegmentTally`, `TurnTally` and `MoveTally` count was met.
     pub fn is_good(&self) -> bool {
         self.agrees()
             && self.refused[1..].iter().all(|&count| count > 0)
@@ -1291,6 +1373,7 @@ impl Tally {
             && self.layouts.is_good()
             && self.segments.is_good()
             && self.turns.is_good()
+            && self.moves.is_good()
     }
 
     pub fn print(&self) {
@@ -1321,6 +1404,7 @@ impl Tally {
         self.layouts.print();
         self.segments.print();
         self.turns.print();
+        self.moves.print();
         self.print_lengths();
         self.print_missing();
         println!("DISAGREEMENTS {}", self.disagreements);

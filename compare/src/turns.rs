@@ -135,12 +135,12 @@ fn stations(segments: &[[u32; 4]]) -> Vec<u32> {
 
 /// What is answered about a code of a roof: of making, and at stations.
 #[derive(Debug)]
-struct Drawn {
-    answer: u32,
-    segments: Vec<[u32; 4]>,
-    loads: Vec<u32>,
+pub struct Drawn {
+    pub answer: u32,
+    pub segments: Vec<[u32; 4]>,
+    pub loads: Vec<u32>,
     /// By the exact rule.
-    exact: Vec<Option<Exact>>,
+    pub exact: Vec<Option<Exact>>,
 }
 
 impl Drawn {
@@ -222,7 +222,7 @@ impl Checker {
     }
 
     /// The library's answer of making, and its segments.
-    fn segments(&self, asked: Asked, item: usize, code: u8) -> (u32, Vec<[u32; 4]>) {
+    pub fn segments(&self, asked: Asked, item: usize, code: u8) -> (u32, Vec<[u32; 4]>) {
         let (answer, numbers) = self.made(asked.sheet, item, code);
         let count = if answer < REFUSED { answer } else { 0 };
         let segments = numbers.as_chunks().0.iter().copied();
@@ -230,7 +230,7 @@ impl Checker {
     }
 
     /// Both sides are asked, and the answers are the library's.
-    fn drawn(&mut self, asked: Asked, item: usize, code: u8, stations: &[u32]) -> Drawn {
+    pub fn drawn(&mut self, asked: Asked, item: usize, code: u8, stations: &[u32]) -> Drawn {
         self.forget();
         self.make(asked, item, code, 128);
         let (answer, segments) = self.segments(asked, item, code);

@@ -7,6 +7,7 @@ mod extent;
 mod force;
 mod load_case;
 mod loads;
+mod pitches;
 mod turning;
 
 pub use codes::exists;
@@ -14,5 +15,6 @@ pub use extent::roof_end;
 pub use force::{guard_force, overhang};
 pub use load_case::LoadCase;
 pub use loads::{Ground, TENTHS, WHOLE};
+pub use pitches::{moved, pitch_count};
 pub use second_numbers::Segment;
 pub use turning::{turned, turned_code};

@@ -11,7 +11,7 @@ use second_shapes::{
 };
 
 // The slopes of a multi-span roof.
-fn slope_count(count: u8) -> usize
+pub fn slope_count(count: u8) -> usize
     ensures { result ≤ 32 }
 {
     2 * usize::from(count.min(16))

@@ -52,6 +52,14 @@ impl Ground {
         line.div_ceil(Wide::from(segment.length) * parts)
     }
 
+    // Whether two loads are so many thousandths of a N/m² and a 375th of the load at μ = 1 apart, or more:
+    // factor × sk / (375 × 1,000,000) + thousandths/1,000 ≤ difference, multiplied out.
+    pub fn moves_beyond(&self, difference: u32, thousandths: u32) -> bool {
+        let den = Wide::from(MILLION) * 375;
+        let part = Wide::from(self.factor) * self.sk * 1_000;
+        part + den * thousandths <= den * 1_000 * difference
+    }
+
     // Whether a load is so many thousandths of a N/m² or more above the exact load of the segment at a station on it:
     // exact + thousandths/1,000 ≤ load, with exact = num × factor × sk / (den × 1,000,000), multiplied out.
     pub fn above_exact(

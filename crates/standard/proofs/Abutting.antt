@@ -16,7 +16,7 @@ use Rattle.standard.specs.Abutting.{abutting_length, wall_load, abutting_drift, 
 use Rattle.figures.specs.declared.national.National.{National}
 use Rattle.standard.specs.Numerators.{wind_num}
 use Rattle.standard.proofs.Numerators.{wind_positive, wind_is, slide_positive}
-use Rattle.standard.proofs.Runs.{Readable, Level, Upward, Rises, WellFormed, even_readable, even_level, even_rises, formed}
+use Rattle.standard.proofs.Runs.{Readable, Level, Upward, Rises, WellFormed, even_readable, even_level, even_ends, formed}
 use Rattle.standard.proofs.Loads.{load_positive, eight_tenths_positive, load_up, steady_up, load_without_up}
 
 module _ (ls b2 : ℕ) (wall rest : Load) where
@@ -80,10 +80,10 @@ module _ (national : National) (factor b1 b2 h : ℕ) (slope : Slope) (guard : �
       (undrifted : Bool) (s t i : ℕ) → 0 < s → s ≤ t → 0 < h
       → Rises (abutting national factor s b1 b2 h slope guard undrifted i) (abutting national factor t b1 b2 h slope guard undrifted i)
   unfolding abutting abutting_drift
-  abutting_rises true s t i hs p hh = even_rises _ _ _ (steady_up factor s t _ p)
+  abutting_rises true s t i hs p hh = even_ends _ _ _ (steady_up factor s t _ p)
   abutting_rises false s t zero hs p hh =
       record { extent = refl; skip = refl; full = refl; from = wall_up s t hs p hh; to = steady_up factor s t _ p }
-  abutting_rises false s t (suc i) hs p hh = even_rises _ _ _ (steady_up factor s t _ p)
+  abutting_rises false s t (suc i) hs p hh = even_ends _ _ _ (steady_up factor s t _ p)
 
   pub abutting_level :
       (undrifted : Bool) (sk i : ℕ) → (not undrifted && eqb i 0) ≡ false → Level (abutting national factor sk b1 b2 h slope guard undrifted i)

@@ -23,7 +23,7 @@ use Rattle.standard.specs.Units.{parts}
 use Rattle.figures.specs.declared.national.National.{National}
 use Rattle.standard.proofs.Numerators.{mu3_positive}
 use Rattle.standard.proofs.Runs.{Readable, Level, Upward, Rises, WellFormed, returned, formed, outside}
-use Rattle.standard.proofs.Runs.{even_readable, even_level, even_rises, ramp_readable, ramp_rises, ramp_beside}
+use Rattle.standard.proofs.Runs.{even_readable, even_level, even_ends, ramp_readable, ramp_ends, ramp_beside}
 use Rattle.standard.proofs.Loads.{alone_positive, eight_tenths_positive, no_load_positive, steady_up, no_load_up}
 
 -- r is where a search from n on of at most k tries ends
@@ -187,9 +187,9 @@ module _ (span ls : ℕ) where
 
   arch_even_rises : (factor s t : ℕ) → s ≤ t → (j : ℕ) → Rises (arch_even factor s span ls j) (arch_even factor t span ls j)
   unfolding arch_even
-  arch_even_rises factor s t p zero = even_rises _ _ _ no_load_up
-  arch_even_rises factor s t p (suc zero) = even_rises _ _ _ (steady_up factor s t _ p)
-  arch_even_rises factor s t p (suc (suc j)) = even_rises _ _ _ no_load_up
+  arch_even_rises factor s t p zero = even_ends _ _ _ no_load_up
+  arch_even_rises factor s t p (suc zero) = even_ends _ _ _ (steady_up factor s t _ p)
+  arch_even_rises factor s t p (suc (suc j)) = even_ends _ _ _ no_load_up
 
   arch_even_level : (factor sk j : ℕ) → Level (arch_even factor sk span ls j)
   unfolding arch_even
@@ -211,12 +211,12 @@ module _ (span ls : ℕ) where
       (half peak half' peak' : Load) → Upward half half' → Upward peak peak' → (j : ℕ)
       → Rises (arch_drift half peak span ls j) (arch_drift half' peak' span ls j)
   unfolding arch_drift
-  arch_drift_rises half peak half' peak' p q zero = even_rises _ _ _ no_load_up
-  arch_drift_rises half peak half' peak' p q (suc zero) = ramp_rises ls _ _ _ _ no_load_up p
-  arch_drift_rises half peak half' peak' p q (suc (suc zero)) = ramp_rises ls _ _ _ _ p no_load_up
-  arch_drift_rises half peak half' peak' p q (suc (suc (suc zero))) = ramp_rises ls _ _ _ _ no_load_up q
-  arch_drift_rises half peak half' peak' p q (suc (suc (suc (suc zero)))) = ramp_rises ls _ _ _ _ q no_load_up
-  arch_drift_rises half peak half' peak' p q (suc (suc (suc (suc (suc j))))) = even_rises _ _ _ no_load_up
+  arch_drift_rises half peak half' peak' p q zero = even_ends _ _ _ no_load_up
+  arch_drift_rises half peak half' peak' p q (suc zero) = ramp_ends ls _ _ _ _ no_load_up p
+  arch_drift_rises half peak half' peak' p q (suc (suc zero)) = ramp_ends ls _ _ _ _ p no_load_up
+  arch_drift_rises half peak half' peak' p q (suc (suc (suc zero))) = ramp_ends ls _ _ _ _ no_load_up q
+  arch_drift_rises half peak half' peak' p q (suc (suc (suc (suc zero)))) = ramp_ends ls _ _ _ _ q no_load_up
+  arch_drift_rises half peak half' peak' p q (suc (suc (suc (suc (suc j))))) = even_ends _ _ _ no_load_up
 
   arch_drift_level : (half peak : Load) (j : ℕ) → (1 ≤ j → j ≤ 4 → ⊥) → Level (arch_drift half peak span ls j)
   unfolding arch_drift

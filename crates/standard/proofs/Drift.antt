@@ -17,7 +17,7 @@ use Rattle.standard.specs.Drift.{together, peak, drift_row, drift_index, drift, 
 use Rattle.standard.specs.Numerators.{peak_num}
 use Rattle.standard.specs.Stretch.{start_of}
 use Rattle.standard.specs.declared.Lengths.{Lengths}
-use Rattle.standard.proofs.Runs.{Readable, Level, Rises, WellFormed, even_readable, ramp_readable, even_level, even_rises, ramp_rises, formed, outside}
+use Rattle.standard.proofs.Runs.{Readable, Level, Rises, WellFormed, even_readable, ramp_readable, even_level, even_ends, ramp_ends, formed, outside}
 use Rattle.standard.proofs.Loads.{no_load_positive, alone_up, no_load_up}
 
 one_part : (f : Fraction) → 0 < f.den → Positive (alone f)
@@ -71,10 +71,10 @@ module _ (l : Lengths) (left right : Fraction) (hl : 0 < left.den) (hr : 0 < rig
 module _ (l : Lengths) where
   pub row_rises : (e f e' f' : Fraction) → Below e e' → Below f f' → (j : ℕ) → Rises (drift_row l e f j) (drift_row l e' f' j)
   unfolding drift_row
-  row_rises e f e' f' p q zero = even_rises _ _ _ no_load_up
-  row_rises e f e' f' p q (suc zero) = ramp_rises _ _ _ _ _ no_load_up (alone_up e e' p)
-  row_rises e f e' f' p q (suc (suc zero)) = ramp_rises _ _ _ _ _ (alone_up f f' q) no_load_up
-  row_rises e f e' f' p q (suc (suc (suc j))) = even_rises _ _ _ no_load_up
+  row_rises e f e' f' p q zero = even_ends _ _ _ no_load_up
+  row_rises e f e' f' p q (suc zero) = ramp_ends _ _ _ _ _ no_load_up (alone_up e e' p)
+  row_rises e f e' f' p q (suc (suc zero)) = ramp_ends _ _ _ _ _ (alone_up f f' q) no_load_up
+  row_rises e f e' f' p q (suc (suc (suc j))) = even_ends _ _ _ no_load_up
 
   pub drift_rises : (e f e' f' : Fraction) → Below e e' → Below f f' → (i : ℕ) → Rises (drift l e f i) (drift l e' f' i)
   unfolding drift

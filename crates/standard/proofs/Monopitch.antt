@@ -7,7 +7,7 @@ use Rattle.standard.specs.Coefficients.{slope_mu}
 use Rattle.standard.specs.Stretch.{start_of}
 use Rattle.standard.specs.Monopitch.{monopitch}
 use Rattle.standard.proofs.Numerators.{slope_mu_positive}
-use Rattle.standard.proofs.Runs.{Level, Rises, WellFormed, even_readable, even_level, even_rises, formed}
+use Rattle.standard.proofs.Runs.{Level, Rises, WellFormed, even_readable, even_level, even_ends, formed}
 use Rattle.standard.proofs.Loads.{alone_positive, steady_up}
 
 module _ (factor : ℕ) (slope : Slope) (guard : ℕ) where
@@ -20,7 +20,7 @@ module _ (factor : ℕ) (slope : Slope) (guard : ℕ) where
 
   pub monopitch_rises : (s t i : ℕ) → s ≤ t → Rises (monopitch factor s slope guard i) (monopitch factor t slope guard i)
   unfolding monopitch
-  monopitch_rises s t i p = even_rises _ _ _ (steady_up factor s t (slope_mu slope guard) p)
+  monopitch_rises s t i p = even_ends _ _ _ (steady_up factor s t (slope_mu slope guard) p)
 
   pub monopitch_level : (sk i : ℕ) → Level (monopitch factor sk slope guard i)
   unfolding monopitch

@@ -13,16 +13,30 @@ use Rattle.rounding.specs.Load.{Load, Positive}
 use Rattle.standard.specs.Stretch.{start_of}
 use Rattle.standard.specs.MultiSpan.{own_load, valley_load, multi_span_from, multi_span_to, multi_span, widths}
 use Rattle.standard.proofs.Numerators.{mu1_positive, mu2_positive}
-use Rattle.standard.proofs.Runs.{Readable, Level, Upward, Rises, WellFormed, ramp_readable, ramp_rises, formed}
+use Rattle.standard.proofs.Runs.{Readable, Level, Upward, SameLengths, Rises, WellFormed, ramp_readable, ramp_ends, formed}
 use Rattle.standard.proofs.Loads.{alone_positive, steady_up}
 
 either_positive : (b : Bool) (l m : Load) → Positive l → Positive m → Positive (cond b l m)
 either_positive true l m p q = p
 either_positive false l m p q = q
 
-either_up : (b : Bool) (l m l' m' : Load) → Upward l l' → Upward m m' → Upward (cond b l m) (cond b l' m')
-either_up true l m l' m' p q = p
-either_up false l m l' m' p q = q
+-- two stretches whose own loads are in a relation, and the loads at their valleys too
+module _ (R : Load → Load → Type 0) where
+  either_ends : (b : Bool) (l m l' m' : Load) → R l l' → R m m' → R (cond b l m) (cond b l' m')
+  either_ends true l m l' m' p q = p
+  either_ends false l m l' m' p q = q
+
+  pub multi_span_ends :
+      (factor sk sk' : ℕ) (spans spans' : Spans) (count : ℕ) (undrifted : Bool) (i : ℕ) → (slope_of spans i).width ≡ (slope_of spans' i).width
+      → R (own_load factor sk spans i) (own_load factor sk' spans' i)
+      → ((j : ℕ) → R (valley_load factor sk spans j) (valley_load factor sk' spans' j))
+      → SameLengths R (multi_span factor sk spans count undrifted i) (multi_span factor sk' spans' count undrifted i)
+  unfolding multi_span multi_span_from multi_span_to
+  multi_span_ends factor sk sk' spans spans' count undrifted i w o v =
+      rw w
+      (ramp_ends _ _ _ _ _
+      (either_ends (undrifted || eqb i 0 || eqb (i % 2) 1) _ _ _ _ o (v (i - 1)))
+      (either_ends (undrifted || eqb (i + 1) (2 * count) || eqb (i % 2) 0) _ _ _ _ o (v i)))
 
 module _ (spans : Spans) where
   pub widths_most : (n : ℕ) → ((i : ℕ) → i < n → SlopeIn (slope_of spans i)) → widths spans n ≤ 100000 * n
@@ -69,11 +83,7 @@ module _ (spans : Spans) where
           (slopes_length sk (2 * count))
 
       pub multi_span_rises : (s t i : ℕ) → s ≤ t → Rises (multi_span factor s spans count undrifted i) (multi_span factor t spans count undrifted i)
-      unfolding multi_span multi_span_from multi_span_to
-      multi_span_rises s t i p =
-          ramp_rises _ _ _ _ _
-          (either_up (undrifted || eqb i 0 || eqb (i % 2) 1) _ _ _ _ (own_up s t i p) (valley_up s t _ p))
-          (either_up (undrifted || eqb (i + 1) (2 * count) || eqb (i % 2) 0) _ _ _ _ (own_up s t i p) (valley_up s t i p))
+      multi_span_rises s t i p = multi_span_ends Upward factor s t spans spans count undrifted i refl (own_up s t i p) (λ j. valley_up s t j p)
 
     -- The first slope is a left one and the last a right one, so neither has a valley: its own load stands at both its ends.
     pub multi_span_level :

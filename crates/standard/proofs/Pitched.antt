@@ -11,7 +11,7 @@ use Rattle.standard.specs.Coefficients.{slope_mu}
 use Rattle.standard.specs.Stretch.{load_alone, start_of}
 use Rattle.standard.specs.Pitched.{halved, pitched}
 use Rattle.standard.proofs.Numerators.{slope_mu_positive}
-use Rattle.standard.proofs.Runs.{Readable, Level, Rises, WellFormed, even_readable, even_level, even_rises, formed}
+use Rattle.standard.proofs.Runs.{Readable, Level, Rises, WellFormed, even_readable, even_level, even_ends, formed}
 use Rattle.standard.proofs.Loads.{alone_positive, steady_up}
 
 pub halved_positive : (half : Bool) (mu : Fraction) → 0 < mu.den → 0 < (halved half mu).den
@@ -38,8 +38,8 @@ module _ (factor : ℕ) (left right : Slope) (left_guard right_guard code : ℕ)
       (s t i : ℕ) → s ≤ t
       → Rises (pitched factor s left right left_guard right_guard code i) (pitched factor t left right left_guard right_guard code i)
   unfolding pitched
-  pitched_rises s t zero p = even_rises _ _ _ (steady_up factor s t (halved (eqb code 2) (slope_mu left left_guard)) p)
-  pitched_rises s t (suc i) p = even_rises _ _ _ (steady_up factor s t (halved (eqb code 3) (slope_mu right right_guard)) p)
+  pitched_rises s t zero p = even_ends _ _ _ (steady_up factor s t (halved (eqb code 2) (slope_mu left left_guard)) p)
+  pitched_rises s t (suc i) p = even_ends _ _ _ (steady_up factor s t (halved (eqb code 3) (slope_mu right right_guard)) p)
 
   pub pitched_level : (sk i : ℕ) → Level (pitched factor sk left right left_guard right_guard code i)
   unfolding pitched

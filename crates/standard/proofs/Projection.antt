@@ -13,7 +13,7 @@ use Rattle.standard.specs.Stretch.{even, start_of, eight_tenths}
 use Rattle.standard.specs.Projection.{projection_length, projection_load, projection_row, projection, projection_count}
 use Rattle.standard.specs.Numerators.{projection_num}
 use Rattle.standard.proofs.Numerators.{projection_positive, projection_is}
-use Rattle.standard.proofs.Runs.{Readable, Level, Upward, Rises, WellFormed, even_readable, even_level, even_rises, formed, outside, ramp_beside}
+use Rattle.standard.proofs.Runs.{Readable, Level, Upward, Rises, WellFormed, even_readable, even_level, even_ends, formed, outside, ramp_beside}
 use Rattle.standard.proofs.Loads.{alone_positive, eight_tenths_positive, alone_up, steady_up, load_without_up}
 
 module _ (ls left right : ℕ) (hl : 0 < ls) (ha : 0 < left) (hb : 0 < right) (peak rest : Load) (p : Positive peak) (r : Positive rest) where
@@ -45,10 +45,10 @@ module _ (ls left right : ℕ) where
       (peak rest peak' rest' : Load) → Upward peak peak' → Upward rest rest' → (j : ℕ)
       → Rises (projection_row ls peak rest left right j) (projection_row ls peak' rest' left right j)
   unfolding projection_row
-  row_rises peak rest peak' rest' p r zero = even_rises _ _ _ r
+  row_rises peak rest peak' rest' p r zero = even_ends _ _ _ r
   row_rises peak rest peak' rest' p r (suc zero) = record { extent = refl; skip = refl; full = refl; from = r; to = p }
   row_rises peak rest peak' rest' p r (suc (suc zero)) = record { extent = refl; skip = refl; full = refl; from = p; to = r }
-  row_rises peak rest peak' rest' p r (suc (suc (suc j))) = even_rises _ _ _ r
+  row_rises peak rest peak' rest' p r (suc (suc (suc j))) = even_ends _ _ _ r
 
   row_level : (peak rest : Load) (j : ℕ) → (1 ≤ j → j ≤ 2 → ⊥) → Level (projection_row ls peak rest left right j)
   unfolding projection_row

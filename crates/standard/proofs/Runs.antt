@@ -96,19 +96,29 @@ pub record Upward (l m : Load) : Type 0 where
   pub first : Below l.first m.first
   pub second : Below l.second m.second
 
--- two stretches of one length, the second loaded no less
-pub record Rises (s t : Stretch) : Type 0 where
+-- two stretches of the same lengths, whose loads at either end are in a relation
+pub record SameLengths (R : Load → Load → Type 0) (s t : Stretch) : Type 0 where
   pub extent : s.extent ≡ t.extent
   pub skip : s.skip ≡ t.skip
   pub full : s.full ≡ t.full
-  pub from : Upward s.from t.from
-  pub to : Upward s.to t.to
+  pub from : R s.from t.from
+  pub to : R s.to t.to
 
-pub ramp_rises : (extent : ℕ) (l m l' m' : Load) → Upward l l' → Upward m m' → Rises (ramp extent l m) (ramp extent l' m')
-ramp_rises extent l m l' m' p q = record { extent = refl; skip = refl; full = refl; from = p; to = q }
+module _ {R : Load → Load → Type 0} where
+  pub ramp_ends : (extent : ℕ) (l m l' m' : Load) → R l l' → R m m' → SameLengths R (ramp extent l m) (ramp extent l' m')
+  ramp_ends extent l m l' m' p q = record { extent = refl; skip = refl; full = refl; from = p; to = q }
 
-pub even_rises : (extent : ℕ) (l l' : Load) → Upward l l' → Rises (even extent l) (even extent l')
-even_rises extent l l' p = ramp_rises extent l l l' l' p p
+  pub even_ends : (extent : ℕ) (l l' : Load) → R l l' → SameLengths R (even extent l) (even extent l')
+  even_ends extent l l' p = ramp_ends extent l l l' l' p p
+
+  pub same_start : (S T : ℕ → Stretch) (n : ℕ) → ((i : ℕ) → i < n → SameLengths R (S i) (T i)) → start_of S n ≡ start_of T n
+  unfolding start_of
+  same_start S T zero r = refl
+  same_start S T (suc n) r = omega (arith, same_start S T n (λ i b. r i (omega arith)), (r n (omega arith)).extent)
+
+-- the second loaded no less
+abbrev pub Rises : Stretch → Stretch → Type 0
+Rises s t = SameLengths Upward s t
 
 rise_in : (g : ℕ) (s t : Stretch) (x : ℕ) → 0 < g → Readable s → Readable t → Rises s t → read_in g s x ≤ read_in g t x
 unfolding read_in
@@ -123,7 +133,7 @@ module _ (S : ℕ → Stretch) (p : ℕ) where
   unfolding holds
   within_reach i h = omega (arith, (within_in (start_of S i) (start_of S i + (S i).extent) p h).1)
 
-  near_at : (g i : ℕ) → 0 < g → Readable (S i) → Near g (g + 2) (reading_at g S p i) (exact_reading_at S p i)
+  pub near_at : (g i : ℕ) → 0 < g → Readable (S i) → Near g (g + 2) (reading_at g S p i) (exact_reading_at S p i)
   unfolding reading_at exact_reading_at
   near_at g i hg f = go (holds (start_of S i) (S i).extent p) refl
     where
@@ -226,7 +236,13 @@ module _ (S : ℕ → Stretch) (p : ℕ) where
             let r : reading_at g S p v.at ≡ read_in g (S v.at) (p - start_of S v.at) = rw v.held in
             record { at = v.at; below = v.below; held = v.held; read = omega (arith, reads_less (suc n) v.at v.below) }
 
-  -- The same of the exact rule: none of the first n lies above the greatest, and the greatest is that of one of them.
+    -- and it is the least that none of the readings exceeds
+    pub greatest_most : (n k : ℕ) → ((i : ℕ) → i < n → reading_at g S p i ≤ k) → greatest g S p n ≤ k
+    unfolding greatest
+    greatest_most zero k h = omega arith
+    greatest_most (suc n) k h = omega (arith, greatest_most n k (λ i b. h i (omega arith)), h n (omega arith))
+
+  -- The same of the exact rule: none of the first n lies above the greatest, which is the least so, and is that of one of them.
   pub exact_less : (n i : ℕ) → ((j : ℕ) → j < n → Readable (S j)) → i < n → Below (exact_reading_at S p i) (exact_greatest S p n)
   unfolding exact_greatest
   exact_less zero i f h = absurd (omega arith)
@@ -237,6 +253,12 @@ module _ (S : ℕ → Stretch) (p : ℕ) where
       below_trans _ (exact_greatest S p n) _ (near_greatest 1 n (omega arith) (λ j k. f j (omega arith))).positive
       (exact_less n i (λ j k. f j (omega arith)) below) (larger_left (exact_greatest S p n) (exact_reading_at S p n)))
       (eq-or-lt_of_le {n = i} {m = n} (omega arith))
+
+  pub exact_greatest_most : (n : ℕ) (f : Fraction) → ((i : ℕ) → i < n → Below (exact_reading_at S p i) f) → Below (exact_greatest S p n) f
+  unfolding exact_greatest Below
+  exact_greatest_most zero f h = omega arith
+  exact_greatest_most (suc n) f h =
+      larger_is (λ z. Below z f) _ _ (λ c. h n (omega arith)) (λ c. exact_greatest_most n f (λ i b. h i (omega arith)))
 
   record ExactOf (n : ℕ) (e : Fraction) : Type 0 where
     at : ℕ
@@ -279,11 +301,6 @@ module _ (S : ℕ → Stretch) (p : ℕ) where
           record { at = v.at; below = v.below; held = v.held; exact = rw z (omega (arith, b)) }
 
 module _ (g : ℕ) (hg : 0 < g) (S T : ℕ → Stretch) (p : ℕ) where
-  same_start : (n : ℕ) → ((i : ℕ) → i < n → Rises (S i) (T i)) → start_of S n ≡ start_of T n
-  unfolding start_of
-  same_start zero r = refl
-  same_start (suc n) r = omega (arith, same_start n (λ i b. r i (omega arith)), (r n (omega arith)).extent)
-
   rise_at : (i : ℕ) → start_of S i ≡ start_of T i → Readable (S i) → Readable (T i) → Rises (S i) (T i) → reading_at g S p i ≤ reading_at g T p i
   unfolding reading_at read_in
   rise_at i e f h r = rw (← e, ← r.extent) (go (holds (start_of S i) (S i).extent p))
@@ -301,7 +318,7 @@ module _ (g : ℕ) (hg : 0 < g) (S T : ℕ → Stretch) (p : ℕ) where
       omega (
         arith,
         rise_greatest n (λ i b. f i (omega arith)) (λ i b. h i (omega arith)) (λ i b. r i (omega arith)),
-        rise_at n (same_start n (λ i b. r i (omega arith))) (f n (omega arith)) (h n (omega arith)) (r n (omega arith)),
+        rise_at n (same_start S T n (λ i b. r i (omega arith))) (f n (omega arith)) (h n (omega arith)) (r n (omega arith)),
       )
 
 -- the first n stretches of a run begin at 0, join end to end and end at `end`; none has length zero, and every denominator is positive

@@ -9,9 +9,8 @@ use Rattle.figures.proofs.Laws.{within_in}
 use Rattle.rounding.specs.Fraction.{Fraction, over, Below, Same}
 use Rattle.rounding.specs.Ramp.{line, reading}
 use Rattle.rounding.specs.Up.{ceil_div}
-use Rattle.rounding.proofs.Limited.{larger_is}
 use Rattle.standard.specs.Stretch.{Stretch, start_of, read_in, exact_in, holds, segment, reading_at, exact_reading_at, greatest, exact_greatest}
-use Rattle.standard.proofs.Runs.{Readable, outside, reads_less, exact_less}
+use Rattle.standard.proofs.Runs.{Readable, outside, reads_less, exact_less, greatest_most, exact_greatest_most}
 use Rattle.turned_roofs.specs.Mirror.{Mirror, MirrorRun}
 use Rattle.turned_roofs.specs.OtherEnd.{segment_from_end}
 
@@ -104,19 +103,6 @@ module _ (S T : ℕ → Stretch) (n : ℕ) (m : MirrorRun S T n) (g i j : ℕ) (
       four _ _ _ _ _ _ _ _ (omega (arith, a)) (omega (arith, a, k.extent))
       (sym (read_mirrored (S i) (T j) k (S i).extent 0 (omega arith) g))
       (sym (read_mirrored (S i) (T j) k 0 (T j).extent (omega (arith, k.extent)) g))
-
--- the greatest is the least that none of the readings exceeds
-module _ (S : ℕ → Stretch) (p : ℕ) where
-  greatest_most : (g n k : ℕ) → ((i : ℕ) → i < n → reading_at g S p i ≤ k) → greatest g S p n ≤ k
-  unfolding greatest
-  greatest_most g zero k h = omega arith
-  greatest_most g (suc n) k h = omega (arith, greatest_most g n k (λ i b. h i (omega arith)), h n (omega arith))
-
-  exact_greatest_most : (n : ℕ) (f : Fraction) → ((i : ℕ) → i < n → Below (exact_reading_at S p i) f) → Below (exact_greatest S p n) f
-  unfolding exact_greatest Below
-  exact_greatest_most zero f h = omega arith
-  exact_greatest_most (suc n) f h =
-      larger_is (λ z. Below z f) _ _ (λ c. h n (omega arith)) (λ c. exact_greatest_most n f (λ i b. h i (omega arith)))
 
 -- the mirror of a mirror is the first
 mirror_back : (s t : Stretch) → Mirror s t → Mirror t s

@@ -61,6 +61,7 @@ impl Tally {
         compare_beyond(given, &expected, &mut self.refusals);
         self.readings.add_segments(given, &expected);
         compare_turned(given, &expected, &mut self.turned);
+        self.moved.add(given, &expected);
     }
 
     // Figures that every call refuses, also of the roof turned round.

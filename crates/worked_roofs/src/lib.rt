@@ -1,5 +1,5 @@
 // Roofs against the second calculation: each at every site, in every job and in every code, through the maker, the reader and the
-// local forces, and as it is drawn from its other end; and what is counted of it.
+// local forces, as it is drawn from its other end, and with each pitch moved by a tenth; and what is counted of it.
 #![tactic(auto)]
 
 mod cases;
@@ -7,6 +7,7 @@ mod drops;
 mod forces;
 mod given;
 mod made;
+mod moved;
 mod readings;
 mod refusals;
 mod tally;

@@ -9,7 +9,7 @@ use second::{LoadCase, Segment, TENTHS, WHOLE};
 use std::fmt;
 
 // 1.2 N/m² in thousandths: by A4 a reading is "less than 1.2 N/m² above the exact rule".
-const FAR: u32 = 1_200;
+pub const FAR: u32 = 1_200;
 
 // The greatest ground load in N/m².
 const MOST_SK: u32 = 25_000;

@@ -1,5 +1,6 @@
 // What is counted of roofs.
 use crate::drops::Drops;
+use crate::moved::Moves;
 use crate::readings::Readings;
 use counts::Compared;
 use std::fmt;
@@ -12,6 +13,7 @@ pub struct Tally {
     pub refusals: Compared,
     pub readings: Readings,
     pub turned: Compared,
+    pub moved: Moves,
     pub forces: Compared,
 }
 
@@ -24,6 +26,7 @@ impl fmt::Display for Tally {
             refusals,
             readings,
             turned,
+            moved,
             forces,
         } = *self;
         writeln!(
@@ -34,6 +37,7 @@ impl fmt::Display for Tally {
         writeln!(f, "REFUSALS {refusals}")?;
         writeln!(f, "{readings}")?;
         writeln!(f, "TURNED {turned}")?;
+        writeln!(f, "{moved}")?;
         write!(f, "FORCES {forces}")
     }
 }
