@@ -9,19 +9,16 @@ use Rattle.figures.specs.declared.slopes.Slope.{Slope}
 use Rattle.rounding.specs.Fraction.{Fraction, over, sum, Below}
 use Rattle.rounding.proofs.Limited.{below_refl}
 use Rattle.standard.specs.Arrangements.{factor_of}
-use Rattle.standard.specs.Coefficients.{mu1, mu2, slope_mu}
+use Rattle.standard.specs.Coefficients.{mu2, slope_mu}
 use Rattle.standard.specs.Numerators.{mu1_num, slope_num, mu2_num}
 use Rattle.standard.specs.Pitched.{halved}
 use Rattle.standard.specs.Stretch.{load, load_alone}
-use Rattle.standard.proofs.Numerators.{mu1_is, slope_mu_is, mu2_is}
+use Rattle.standard.proofs.Numerators.{slope_mu_is, mu2_is}
 use Rattle.moved_pitches.specs.Apart.{AtMostAbove, tenth_cost}
 use Rattle.moved_pitches.specs.Pitches.{TenthApart}
 use Rattle.moved_pitches.proofs.Apart.{LoadsAbove, over_above}
 
-pub mu1_above : (p q : ℕ) → TenthApart p q → AtMostAbove (over 1 375) (mu1 p) (mu1 q)
-unfolding mu1_num
-mu1_above p q a = over_above (over 1 375) _ _ (mu1_num p) (mu1_num q) 375 (omega arith) (mu1_is p) (mu1_is q) (omega (arith, a.up, a.down))
-
+-- of a slope with its guard; a guard of 0 leaves μ1
 pub slope_mu_above :
     (s t : Slope) (guard : ℕ) → guard ≤ 1 → TenthApart s.pitch t.pitch → AtMostAbove (over 1 375) (slope_mu s guard) (slope_mu t guard)
 unfolding slope_num mu1_num

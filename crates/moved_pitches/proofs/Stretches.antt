@@ -14,6 +14,7 @@ use Rattle.figures.specs.declared.roof.Shape.{Shape}
 use Rattle.rounding.specs.Fraction.{Fraction}
 use Rattle.standard.specs.Arrangements.{factor_of, count_in, stretch_in, end_in}
 use Rattle.standard.specs.Codes.{names_drift, drift_named}
+use Rattle.standard.specs.Coefficients.{guarded}
 use Rattle.standard.specs.Monopitch.{monopitch}
 use Rattle.standard.specs.MultiSpan.{own_load, valley_load, multi_span, widths}
 use Rattle.standard.specs.Pitched.{pitched, slope_stretch}
@@ -24,7 +25,7 @@ use Rattle.standard.proofs.Runs.{even_ends}
 use Rattle.moved_pitches.specs.Apart.{tenth_cost}
 use Rattle.moved_pitches.specs.Pitches.{spans_with, pitch_in, with_pitches, TenthApart}
 use Rattle.moved_pitches.proofs.Apart.{LoadsAbove, loads_refl}
-use Rattle.moved_pitches.proofs.Coefficients.{mu1_above, slope_mu_above, mu2_above, halved_above, loads_above}
+use Rattle.moved_pitches.proofs.Coefficients.{slope_mu_above, mu2_above, halved_above, loads_above}
 use Rattle.moved_pitches.proofs.Shapes.{SlopesApart, slopes_apart, every_shape}
 use Rattle.moved_pitches.proofs.Runs.{Above}
 
@@ -51,8 +52,8 @@ module _ (site : Site) (code : ℕ) where
   module _ (spans spans' : Spans) (a : (i : ℕ) → SlopesApart (slope_of spans i) (slope_of spans' i)) where
     own_above :
         (i : ℕ) → LoadsAbove (tenth_cost site code) (own_load (factor_of site code) site.sk spans i) (own_load (factor_of site code) site.sk spans' i)
-    unfolding own_load
-    own_above i = loads_above site code _ _ (mu1_above _ _ (a i).pitch)
+    unfolding own_load guarded
+    own_above i = loads_above site code _ _ (slope_mu_above (slope_of spans i) (slope_of spans' i) 0 (omega arith) (a i).pitch)
 
     valley_above :
         (i : ℕ)
