@@ -13,13 +13,19 @@ use pairs::Refused;
 // The answer where there is no such force, a number of the C interface.
 pub const NONE: u32 = 0xFFFF_FFFF;
 
-// A refusal with its number and the item that it names. An index above 65,535 shows as that.
+// A refusal by any number of 8 bits, with the item that it names. An index above 65,535 shows as that.
 #[tactic(auto, unfolding(crate::specs::Codes::refusal_code))]
+pub fn refusal_by_number(number: u8, item: usize) -> u32
+    ensures { result ≡ refusal_code number item }
+{
+    0x8000_0000 + 65_536 * u32::from(number) + item.min(65_535) as u32
+}
+
+// A refusal with its number and the item that it names.
 pub fn refusal(refused: Refused) -> u32
     ensures { result ≡ refusal_code (number_of refused.refusal) refused.item }
 {
-    let number = u8::from(refused.refusal);
-    0x8000_0000 + 65_536 * u32::from(number) + refused.item.min(65_535) as u32
+    refusal_by_number(u8::from(refused.refusal), refused.item)
 }
 
 // A number, or a refusal.

@@ -1,12 +1,15 @@
 // Which arrangements and local forces exist, and which drift a code names.
 #![tactic(auto)]
 
+mod by_number;
+
 ghost use Rattle.std.specs.Prelude.{◌≡◌, ◌≤◌, true, cond, Some, None};
 ghost use Rattle.figures.specs.Kind.{kind_number};
 ghost use Rattle.figures.specs.Ranges.{within};
 ghost use Rattle.figures.specs.RoofRules.{kind_of, drifts_of};
-ghost use Rattle.standard.specs.Codes.{persistent_by, drifts_in, accidental, base_code, accidental_in, names_drift, drift_named, exists_in, first_code, last_code, forces_in};
+ghost use Rattle.standard.specs.Codes.{persistent_by, drifts_in, accidental, base_code, accidental_in, names_drift, drift_named, exists_in, first_code, last_code};
 
+pub use by_number::{has_code, has_forces, last_code};
 use figures::{Kind, Shape};
 
 // What the codes of a roof depend on: its kind, the situation, and how many exceptional drifts it has room for. Codes are document 01's
@@ -121,11 +124,4 @@ pub fn named_drift(drifts: u8, code: u8) -> Option<usize>
 {
     let drift = code.checked_sub(31)?;
     (drift < drifts).then_some(usize::from(drift))
-}
-
-// Whether a kind has local forces.
-pub fn has_forces(kind: Kind) -> bool
-    ensures { result ≡ forces_in (kind_number kind) }
-{
-    matches!(kind, Kind::Monopitch | Kind::Pitched)
 }

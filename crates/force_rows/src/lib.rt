@@ -47,7 +47,7 @@ pub fn list_forces(out: &mut Writer, sited: SitedShape, item: u32)
     ensures wrote { Wrote out.old (force_rows sited.site sited.shape item) out.new }
     ensures upper_bound { out.new.at ≤ out.old.at + 176 }
 {
-    if !has_forces(sited.shape.kind()) {
+    if !has_forces(u8::from(sited.shape.kind())) {
         return;
     }
     list_slope(out, sited, item, 1);

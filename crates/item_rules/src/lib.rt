@@ -8,7 +8,7 @@ ghost use Rattle.item_rules.specs.Rules.{job_refusal, rule_of, LaterRule};
 use figures::{Refusal, SiteData};
 use items::{Item, decode, spans_in};
 use lower_rules::check_lower;
-use map_sites::site_from;
+use map_sites::check_site_data;
 use national_sets::Store;
 use roof_rules::check_shape;
 use sets_in_use::check_day;
@@ -18,7 +18,7 @@ use sets_in_use::check_day;
 fn check_job(store: Store, fields: SiteData) -> Result<(), Refusal>
     ensures { number_in result ≡ job_refusal store.entry.numbers.now fields }
 {
-    site_from(fields)?;
+    check_site_data(fields)?;
     check_day(store, fields.day)
 }
 

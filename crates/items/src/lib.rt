@@ -1,11 +1,11 @@
-// What an item's bytes say: a site, a roof with its spans, or a lower roof, or the refusal of their form.
+// What an item's bytes say: a site, a roof, or a lower roof, or the refusal of their form; and a roof's spans.
 #![tactic(auto, unfolding(crate::specs::Items::by_kind, crate::specs::Items::content))]
 
 ghost use Rattle.std.specs.Prelude.{◌≡◌, Ok};
 ghost use Rattle.item_forms.specs.Forms.{is_lower};
 ghost use Rattle.item_forms.specs.declared.Item.TheVariants.{RoofItem};
 ghost use Rattle.span_items.specs.SpanItems.{spans_said};
-ghost use Rattle.items.specs.Items.{content};
+ghost use Rattle.items.specs.Items.{content, spans_of};
 
 use figures::{Kind, Refusal, Shape, Spans};
 pub use item_forms::Item;
@@ -45,6 +45,17 @@ pub fn spans_in(p: &[u8], shape: Shape) -> Spans
     ensures { result ≡ spans_said shape p.now }
 {
     span_items::spans_in(p, shape)
+}
+
+// The spans that an item's bytes say, of any bytes: those of a multi-span roof, and none of any other item or of one that is refused.
+#[tactic(auto, unfolding(crate::specs::Items::spans_of))]
+pub fn spans_of(p: &[u8]) -> Spans
+    ensures { result ≡ spans_of p.now }
+{
+    match decode(p) {
+        Ok(Item::RoofItem(shape)) => spans_in(p, shape),
+        _ => Spans::none(),
+    }
 }
 
 // Whether an item's bytes are a lower roof's. It is told by the kind and the length, without decoding.

@@ -40,7 +40,7 @@ pub fn check_multi_span(count: u8, drifts: bool, spans: &Spans) -> Result<(), Re
     if !span_fields(drifts, spans, n) {
         return Err(Refusal::RoofField);
     }
-    if steep_valleys(spans, n) {
+    if steep_valleys(spans, n - 1) {
         return Err(Refusal::ValleyPitch);
     }
     Ok(())

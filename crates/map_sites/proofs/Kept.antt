@@ -52,6 +52,10 @@ module _ (d : SiteData) where
   site_by_lem (Given sk) e = e
   site_by_lem (OnMap region zone) e = let a = none_broken _ _ e in map_sound region zone (sound (other_fields d.ce d.ct d.cesl d.situation) 6 (omega arith) a.0) a.1
 
+  pub place_kept : (region zone : ℕ) → d.ground ≡ OnMap region zone → site_data_refusal d ≡ 0 → map_refusal region zone d.altitude ≡ 0
+  unfolding site_data_refusal
+  place_kept region zone g e = let f : refusal_by (OnMap region zone) d ≡ 0 = rw g at e in (none_broken _ _ f).1
+
   -- the site of an item that breaks no rule is accepted
   pub site_accepted : site_data_refusal d ≡ 0 → site_refusal (site_from d) ≡ 0
   unfolding site_data_refusal

@@ -5,4 +5,4 @@ mod map;
 mod sites;
 
 pub use map::ground_load;
-pub use sites::site_from;
+pub use sites::{check_site_data, site_from};

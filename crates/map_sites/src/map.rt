@@ -15,6 +15,14 @@ fn map_fields(region: u8, zone: u8) -> bool
     (1..=8).contains(&region) && (1..=5).contains(&zone)
 }
 
+// The ground load of a place on the map that breaks no rule.
+pub(crate) fn sk_on_map(region: u8, zone: u8, altitude: u16) -> u32
+    requires { map_refusal region zone altitude ≡ 0 }
+    ensures { result ≡ ground_load region zone altitude }
+{
+    table_load(region, zone, altitude) as u32
+}
+
 // The ground load of any region, zone and altitude, or the first rule that they break: 7, 14, 15.
 #[tactic(auto, using(crate::proofs::Kept::place_in, crate::proofs::Kept::load_most), unfolding(crate::specs::Sites::map_refusal, crate::specs::Sites::ground_answer, figures::specs::Rules::first_of))]
 pub fn ground_load(region: u8, zone: u8, altitude: u16) -> Result<u32, Refusal>

@@ -5,9 +5,9 @@ ghost use Rattle.figures.specs.Refusal.{number_in};
 ghost use Rattle.figures.specs.SiteRules.{site_refusal};
 ghost use Rattle.figures.specs.declared.site.Ground.TheVariants.{Given, OnMap};
 ghost use Rattle.ground_loads.specs.Map.{ground_load};
-ghost use Rattle.map_sites.specs.Sites.{site_with, site_from, refusal_by, site_data_refusal};
+ghost use Rattle.map_sites.specs.Sites.{sk_of, site_with, site_from, refusal_by, site_data_refusal};
 
-use crate::map::ground_load;
+use crate::map::{ground_load, sk_on_map};
 use figures::{Ground, Refusal, Site, SiteData};
 use site_rules::{check_site, other_fields};
 
@@ -51,7 +51,7 @@ fn map_site(region: u8, zone: u8, fields: SiteData) -> Result<Site, Refusal>
 
 // The site of an item, or the first rule that it breaks by its own values.
 #[tactic(auto, unfolding(crate::specs::Sites::site_data_refusal))]
-pub fn site_from(fields: SiteData) -> Result<Site, Refusal>
+pub fn check_site_data(fields: SiteData) -> Result<Site, Refusal>
     ensures number { number_in result ≡ site_data_refusal fields }
     ensures site { IfOk result (λ site. (site ≡ site_from fields) × (site_refusal site ≡ 0)) }
 {
@@ -59,4 +59,23 @@ pub fn site_from(fields: SiteData) -> Result<Site, Refusal>
         Ground::Given(sk) => given_site(sk, fields),
         Ground::OnMap { region, zone } => map_site(region, zone, fields),
     }
+}
+
+// The ground load of an item's site that breaks no rule.
+fn sk_of(fields: SiteData) -> u32
+    requires { site_data_refusal fields ≡ 0 }
+    ensures { result ≡ sk_of fields.ground fields.altitude }
+{
+    match fields.ground {
+        Ground::Given(sk) => sk,
+        Ground::OnMap { region, zone } => sk_on_map(region, zone, fields.altitude),
+    }
+}
+
+// The site of an item that breaks no rule. It tests none of them again, and can't fail.
+pub fn site_from(fields: SiteData) -> Site
+    requires { site_data_refusal fields ≡ 0 }
+    ensures { (result ≡ site_from fields) × (site_refusal result ≡ 0) }
+{
+    site_with(sk_of(fields), fields)
 }

@@ -5,5 +5,5 @@
 mod set;
 mod store;
 
-pub use set::{SET_NUMBERS, set_from};
-pub use store::{MOST_SETS, STORE_NUMBERS, Store};
+pub use set::{SET_NUMBERS, set_from, set_sound};
+pub use store::{MOST_SETS, STORE_NUMBERS, Store, set_at};

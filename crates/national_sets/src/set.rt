@@ -26,14 +26,18 @@ pub fn set_from(numbers: &[u32], at: usize) -> NationalSet
     }
 }
 
+// Whether a number lies in a range. Like those below, the tests of a set are joined without branches, for the speed of a store of many sets.
+fn within(low: u32, high: u32, x: u32) -> bool
+    ensures { result ≡ within low high x }
+{
+    (low <= x) & (x <= high)
+}
+
 // Whether the upper value of μ3 and the range of μw are sound, in hundredths.
 fn coefficients_sound(n: National) -> bool
     ensures { result ≡ (within 1 800 n.arch && within 1 800 n.low && within 1 800 n.high && leb n.low n.high) }
 {
-    (1..=800).contains(&n.arch)
-        && (1..=800).contains(&n.low)
-        && (1..=800).contains(&n.high)
-        && n.low <= n.high
+    within(1, 800, n.arch) & within(1, 800, n.low) & within(1, 800, n.high) & (n.low <= n.high)
 }
 
 // Whether a set's coefficients are sound, and its range of drift lengths.
@@ -41,15 +45,15 @@ fn figures_sound(n: National) -> bool
     ensures { result ≡ figures_sound n }
 {
     coefficients_sound(n)
-        && (1_000..=30_000).contains(&n.short)
-        && (1_000..=30_000).contains(&n.long)
-        && n.short <= n.long
+        & within(1_000, 30_000, n.short)
+        & within(1_000, 30_000, n.long)
+        & (n.short <= n.long)
 }
 
 // Whether a set may stand behind others, where earliest is the first day that it may have.
 #[tactic(auto, unfolding(figures::specs::Store::set_sound))]
-pub(crate) fn set_sound(set: NationalSet, earliest: u64) -> bool
+pub fn set_sound(set: NationalSet, earliest: u64) -> bool
     ensures { result ≡ set_sound earliest set }
 {
-    (earliest..=65_535).contains(&u64::from(set.day)) && figures_sound(set.figures)
+    (earliest..=65_535).contains(&u64::from(set.day)) & figures_sound(set.figures)
 }

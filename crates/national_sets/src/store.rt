@@ -1,6 +1,5 @@
 // An accepted store of national sets.
 ghost use Rattle.std.specs.Prelude.{◌≡◌, ◌+◌, ◌≤◌, ◌<◌, ◌&&◌, ltb, length, IfOk};
-ghost use Rattle.std.specs.List.{list_all, range_with_len};
 ghost use Rattle.figures.specs.Refusal.{number_in};
 ghost use Rattle.figures.specs.Store.{set_count, set_start, set_at, earliest_day, set_sound, sets_sound, store_fits, store_refusal};
 
@@ -59,8 +58,8 @@ impl<'a> Store<'a> {
     }
 }
 
-// Set i of a store.
-fn set_at(numbers: &[u32], i: usize) -> NationalSet
+// Set i of a store, or of any numbers that have it.
+pub fn set_at(numbers: &[u32], i: usize) -> NationalSet
     requires { set_start i + 6 ≤ length numbers.now }
     ensures { result ≡ set_at numbers.now i }
 {
@@ -78,12 +77,20 @@ fn earliest_day(numbers: &[u32], i: usize) -> u64
     u64::from(set_at(numbers, i - 1).day) + 1
 }
 
-// Whether each of the first count sets may stand where it does.
+// Whether each of the first count sets may stand where it does. The first day that the next may have is carried on, and no test ends the
+// loop or is passed over: a chain that stops at the first that fails takes a quarter longer with 31 sets.
 fn sets_sound(numbers: &[u32], count: usize) -> bool
     requires { set_start count ≤ length numbers.now }
-    ensures { result ≡ list_all (λ i. set_sound (earliest_day (set_at numbers.now) i) (set_at numbers.now i)) (range_with_len 0 count) }
+    ensures { result ≡ sets_sound (set_at numbers.now) count }
 {
-    (0..count).all(|i| set_sound(set_at(numbers, i), earliest_day(numbers, i)))
+    let mut sound = true;
+    let mut earliest = 0;
+    for i in 0..count {
+        let set = set_at(numbers, i);
+        sound = sound & set_sound(set, earliest);
+        earliest = u64::from(set.day) + 1;
+    }
+    sound
 }
 
 // Whether any numbers are a store that breaks no rule.

@@ -1,10 +1,12 @@
 -- The items of a sheet in turn.
 use Prim.Native.Nat.{ℕ, zero, suc, ◌+◌, ◌-◌, ◌≤◌, ◌<◌}
 use mathlib.Core.Path.{◌≡◌, refl}
-use borrow.Author.Tests.{eq-eqb, ne_eqb}
+use borrow.Author.Tests.{eq-eqb, ne_eqb, le-leb, lt-leb}
+use mathlib.Core.List.{List}
+use lib.ListN.{length}
 use native.Mathlib.Numerals.{add-one}
 use native.Mathlib.Omega.{arith}
-use Rattle.pairs.specs.Pairs.{accepted, refused, in_turn}
+use Rattle.pairs.specs.Pairs.{accepted, refused, offset, size, earliest, pair_number, in_turn}
 
 -- one turn of the walk, by the number of the item in turn; its end
 module _ (number : ℕ → ℕ) (m i n : ℕ) where
@@ -40,3 +42,17 @@ pub walked : (number : ℕ → ℕ) (m i k : ℕ) → ((j : ℕ) → i ≤ j →
 unfolding in_turn
 walked number m i zero h = refl
 walked number m i (suc k) h = rw (h i (omega arith) (omega arith)) (walked number m (suc i) k (λ j a b. h j (omega arith) (omega arith)))
+
+-- the number of a pair by its tests
+module _ (s : List ℕ) (i : ℕ) where
+  pub pair_early : offset s i < earliest s i → pair_number s i ≡ 2
+  unfolding pair_number
+  pair_early h = rw (lt-leb (earliest s i) (offset s i) h)
+
+  pub pair_past : earliest s i ≤ offset s i → length s < offset s i + size s i → pair_number s i ≡ 2
+  unfolding pair_number
+  pair_past h g = rw (le-leb (earliest s i) (offset s i) h, lt-leb (offset s i + size s i) (length s) g)
+
+  pub pair_sound : earliest s i ≤ offset s i → offset s i + size s i ≤ length s → pair_number s i ≡ 0
+  unfolding pair_number
+  pair_sound h g = rw (le-leb (earliest s i) (offset s i) h, le-leb (offset s i + size s i) (length s) g)

@@ -4,7 +4,7 @@ ghost use Rattle.ceilings.specs.Ceilings.{ceiling_of};
 ghost use Rattle.figures.specs.Refusal.{number_of};
 ghost use Rattle.pairs.specs.Pairs.{offset, size, accepted, refused, part, pairs_verdict, PartsIn};
 
-use crate::reading::{pair_at, read_pairs};
+use crate::reading::{pair_at, part_at, read_pairs};
 use crate::turns::Refused;
 use ceilings::Caller;
 use pair_words::Pair;
@@ -29,6 +29,21 @@ impl<'a> Items<'a> {
         Ok(Items { sheet, count })
     }
 
+    // The first items of any bytes as a sheet, as many as are known to lie in it, whatever count it says.
+    pub fn lying_in(sheet: &'a [u8], count: usize) -> Items<'a>
+        requires { PartsIn sheet.now count × (count ≤ 32) }
+        ensures { (result.sheet.now ≡ sheet.now) × (result.count ≡ count) }
+    {
+        Items { sheet, count }
+    }
+
+    // The sheet that they lie in.
+    pub fn bytes(self) -> &'a [u8]
+        ensures { result.now ≡ self.entry.sheet.now }
+    {
+        self.sheet
+    }
+
     // How many they are.
     pub fn count(self) -> usize
         ensures { (result ≡ self.entry.count) × (result ≤ 32) }
@@ -49,7 +64,6 @@ impl<'a> Items<'a> {
         requires { i < self.count }
         ensures { result.now ≡ part self.entry.sheet.now i }
     {
-        let pair = pair_at(self.sheet, i);
-        &self.sheet[pair.start()..pair.end()]
+        part_at(self.sheet, i)
     }
 }

@@ -6,5 +6,5 @@ mod reading;
 mod turns;
 
 pub use items::Items;
-pub use reading::read_pairs;
+pub use reading::{pair_at, part_at, read_pairs};
 pub use turns::{Refused, in_turn};

@@ -1,16 +1,15 @@
 // The verdict on a sheet's count and pairs.
-ghost use Rattle.std.specs.Prelude.{◌≡◌, ◌+◌, ◌*◌, ◌≤◌, ◌<◌, length};
-ghost use Rattle.figures.specs.Refusal.{number_in};
-ghost use Rattle.pairs.specs.Pairs.{count, offset, size, earliest, pair_number, pairs_verdict, verdict_means};
+ghost use Rattle.std.specs.Prelude.{◌≡◌, ◌+◌, ◌*◌, ◌≤◌, length};
+ghost use Rattle.pairs.specs.Pairs.{count, offset, size, pair_number, in_turn, pairs_verdict, part, PartIn, verdict_means};
 
-use crate::turns::{Refused, in_turn};
+use crate::turns::Refused;
 use ceilings::Ceiling;
 use figures::Refusal;
 use little_endian::u16_at;
 use pair_words::{Pair, split, word};
 
 // The pair at an index, where its four bytes are in the sheet. Every pair is read here.
-pub(crate) fn pair_at(s: &[u8], i: usize) -> Pair
+pub fn pair_at(s: &[u8], i: usize) -> Pair
     requires { 2 + 4 * i + 4 ≤ length s.now }
     ensures { (result.offset ≡ offset s.now i) × (result.size ≡ size s.now i) }
 {
@@ -18,29 +17,34 @@ pub(crate) fn pair_at(s: &[u8], i: usize) -> Pair
     split(word(s[at], s[at + 1], s[at + 2], s[at + 3]))
 }
 
-// Where the item of a pair may begin: behind the pairs, and behind the item before it.
-fn earliest(s: &[u8], n: usize, i: usize) -> usize
-    requires { (n ≡ count s.now) × (2 + 4 * n ≤ length s.now) × (i < n) }
-    ensures { result ≡ earliest s.now i }
-{
-    if i == 0 {
-        2 + 4 * n
-    } else {
-        pair_at(s, i - 1).end()
-    }
-}
-
-// A pair is refused whose item begins too early or runs past the sheet.
-#[tactic(auto, unfolding(crate::specs::Pairs::pair_number))]
-fn check_pair(s: &[u8], n: usize, i: usize) -> Result<(), Refusal>
-    requires { (n ≡ count s.now) × (2 + 4 * n ≤ length s.now) × (i < n) }
-    ensures { number_in result ≡ pair_number s.now i }
+// The item that a pair lies at, where both are within the sheet.
+pub fn part_at(s: &[u8], i: usize) -> &[u8]
+    requires { PartIn s.now i }
+    ensures { result.now ≡ part s.now i }
 {
     let pair = pair_at(s, i);
-    if pair.start() < earliest(s, n, i) || s.len() < pair.end() {
-        return Err(Refusal::Pair);
+    &s[pair.start()..pair.end()]
+}
+
+// The n pairs in turn: one is refused whose item begins before the end of the pairs or of the item before it, or runs past the sheet. That
+// end is carried on, so that each pair is read once.
+fn check_pairs(s: &[u8], n: usize) -> Result<usize, Refused>
+    requires { (n ≡ count s.now) × (2 + 4 * n ≤ length s.now) }
+    ensures { verdict_means result ≡ in_turn (pair_number s.now) n 0 n }
+{
+    let mut earliest = 2 + 4 * n;
+    for i in 0..n {
+        let pair = pair_at(s, i);
+        let end = pair.end();
+        if pair.start() < earliest || s.len() < end {
+            return Err(Refused {
+                refusal: Refusal::Pair,
+                item: i,
+            });
+        }
+        earliest = end;
     }
-    Ok(())
+    Ok(n)
 }
 
 // The verdict on a sheet's count and pairs, under a ceiling.
@@ -56,5 +60,5 @@ pub fn read_pairs(s: &[u8], ceiling: Ceiling) -> Result<usize, Refused>
         return Err(Refused::from(Refusal::SheetLimits));
     }
     let n = usize::from(count);
-    in_turn(0, n, |i| check_pair(s, n, i))
+    check_pairs(s, n)
 }

@@ -10,7 +10,7 @@ use Rattle.rounding.proofs.Ramps.{break_alone, reading_start, reading_end, readi
 use native.Mathlib.Nat.{mul-le-mul}
 use native.Mathlib.Omega.{arith}
 use Rattle.standard.specs.Stretch.{even, ramp, no_load}
-use Rattle.standard.specs.Units.{parts, largest_position, largest_load}
+use Rattle.standard.specs.Units.{parts, largest_position, largest_break, largest_load}
 use Rattle.ramps.specs.Ramps.{RoundedStretch, ramp_of, RampIn, read_ramp}
 
 abbrev pub made : ℕ → ℕ → ℕ → ℕ → ℕ → RoundedStretch
@@ -25,6 +25,11 @@ pub cut_ramp :
     → made x k f a b ≡ ramp_of (record { extent = x; skip = k; full = f; from = from; to = to })
 unfolding ramp_of
 cut_ramp x k f a b from to p q = rw (p, q)
+
+-- and its bounds
+pub cut_in :
+    (x k f a b : ℕ) → 1 ≤ x → k + x ≤ f → f ≤ largest_position → a ≤ largest_break → b ≤ largest_break → RampIn (made x k f a b)
+cut_in x k f a b some inside full s t = record { some = some; inside = inside; full = full; from = s; to = t }
 
 module _ (r : RoundedStretch) where
   pub whole_ramp :

@@ -81,7 +81,7 @@ pub fn projection_item(p: &[u8]) -> Result<Item, Refusal>
 pub const LOWER_LENGTH: usize = 11;
 
 // The fields of a lower roof that takes its upper figures from another item of its sheet.
-fn lower_at(p: &[u8]) -> LowerRoof
+pub fn lower_at(p: &[u8]) -> LowerRoof
     requires { length p.now ≡ 11 }
     ensures { result ≡ lower_at p.now }
 {

@@ -1,6 +1,6 @@
 -- The sheet, read with a lent store: the verdict on it, and its items. Refusal 18 of the store, 3 to 10, 14, 15 and 19 item by item, 16 and
 -- 17 over all items, and 12 for an index.
-use Rattle.std.specs.Prelude.{ℕ, Bool, true, false, cond, List, [], ◌≡◌, ltb, eqb, take, drop, Result, Ok, Err}
+use Rattle.std.specs.Prelude.{ℕ, ◌<◌, Bool, true, false, cond, List, [], ◌≡◌, ltb, eqb, take, drop, Result, Ok, Err}
 use Rattle.figures.specs.Refusal.{number_of}
 use Rattle.figures.specs.Store.{set_count, store_refusal}
 use Rattle.item_rules.specs.Rules.{rule_of}
@@ -41,6 +41,14 @@ accepts (refused number item) n = false
 
 abbrev pub SheetOf : List ℕ → List ℕ → ℕ → Type 0
 SheetOf store s n = accepts (sheet_verdict store terminals s) n ≡ true
+
+-- one of the items of a sheet that is accepted with some store under some ceiling
+pub record ItemOf (s : List ℕ) (i : ℕ) : Type 0 where
+  pub store : List ℕ
+  pub ceiling : Ceiling
+  pub items : ℕ
+  pub verdict : sheet_verdict store ceiling s ≡ accepted items
+  pub below : i < items
 
 -- where an item lies in the sheet
 pub record Place : Type 0 where

@@ -14,6 +14,7 @@ use Rattle.figures.specs.Ranges.{within}
 use Rattle.figures.specs.RoofRules.{kind_of, roof_of, roof_refusal}
 use Rattle.figures.specs.SiteRules.{site_refusal}
 use Rattle.figures.specs.Slopes.{AcceptedShape}
+use Rattle.figures.specs.Store.{store_refusal}
 use Rattle.figures.specs.Spans.{no_spans}
 use Rattle.figures.specs.declared.refusal.Refusal.{Refusal}
 use Rattle.figures.specs.declared.roof.LowerRoof.{LowerRoof}
@@ -38,12 +39,12 @@ use Rattle.ceilings.specs.Ceilings.{terminals}
 use Rattle.ceilings.specs.declared.Ceiling.{Ceiling}
 use Rattle.figures.specs.declared.national.National.{National}
 use Rattle.figures.specs.declared.site.Site.{Site}
-use Rattle.pairs.specs.Pairs.{Answer, accepted, refused, part}
+use Rattle.pairs.specs.Pairs.{Answer, accepted, refused, part, PartIn}
 use Rattle.item_rules.specs.Figures.{roof_by}
 use Rattle.item_rules.specs.Rules.{job_refusal, rule_by}
-use Rattle.sheet.specs.Sheet.{Place, item_number, sheet_verdict, place_by, place}
+use Rattle.sheet.specs.Sheet.{ItemIn, Place, item_number, sheet_verdict, place_by, place}
 use Rattle.sheet.proofs.Kept.{SheetKept, sheet_kept, placed}
-use Rattle.pairs.proofs.Kept.{not_refused}
+use Rattle.pairs.proofs.Kept.{not_refused, parts_in}
 use Rattle.sheet_figures.specs.Find.{Figures, at_site, at_roof, figures_at, found_in, sheet_site, sheet_national, sheet_roof, found_by, found, RoofAccepted, FoundAccepted}
 
 -- a first item that breaks no rule is a site
@@ -111,6 +112,16 @@ pub site_sound : (store s : List ℕ) → item_number store s 0 ≡ 0 → site_r
 unfolding sheet_site item_number
 site_sound store s e = let f = first_by store (part s 0) (item_at s 0) e in rw f.said (site_accepted f.fields f.sound)
 
+-- a first item that lies in a sheet and breaks no rule with some store
+pub first_in : (s : List ℕ) → ItemIn s 0 → FirstSite (item_at s 0)
+unfolding item_number
+first_in s k = first_by k.store (part s 0) (item_at s 0) k.sound
+
+-- the national figures that a sheet's job uses, of any bytes
+pub national_in : (store s : List ℕ) → store_refusal store ≡ 0 → NationalIn (sheet_national store s)
+unfolding sheet_national
+national_in store s h = in_use_in store (sheet_site s).day h
+
 -- the items of an accepted sheet
 module _ (store : List ℕ) (ceiling : Ceiling) (s : List ℕ) (n : ℕ) (v : sheet_verdict store ceiling s ≡ accepted n) where
   sheet : SheetKept store ceiling s n
@@ -125,10 +136,6 @@ module _ (store : List ℕ) (ceiling : Ceiling) (s : List ℕ) (n : ℕ) (v : sh
 
   pub site_in : site_refusal (sheet_site s) ≡ 0
   site_in = site_sound store s (sheet.sound 0 some_items)
-
-  pub national_in : NationalIn (sheet_national store s)
-  unfolding sheet_national
-  national_in = in_use_in store (sheet_site s).day sheet.accepted_store
 
   module _ (i : ℕ) (h : i < n) where
     stands : is_lower (item_at s i) ≡ true → Above s n i
@@ -147,10 +154,11 @@ module _ (store : List ℕ) (ceiling : Ceiling) (s : List ℕ) (n : ℕ) (v : sh
     -- what is asked for its shape
     pub below_asked :
         (lower : LowerRoof) → item_at s i ≡ Ok (LowerItem lower)
-        → (lower.upper < n) × (is_upper (item_at s lower.upper) ≡ true) × AcceptedShape (upper_shape (item_at s lower.upper))
+        → PartIn s lower.upper × (lower.upper < n) × (is_upper (item_at s lower.upper) ≡ true) × AcceptedShape (upper_shape (item_at s lower.upper))
     below_asked lower e =
         let l : is_lower (item_at s i) ≡ true = ap is_lower e in
         let u = above_upper l in (
+          subst (λ (x : Result Item Refusal). PartIn s (upper_index x)) e (parts_in sheet.pairs (upper_index (item_at s i)) (above_below l)),
           subst (λ (x : Result Item Refusal). upper_index x < n) e (above_below l),
           subst (λ (x : Result Item Refusal). is_upper (item_at s (upper_index x)) ≡ true) e u.upper,
           subst (λ (x : Result Item Refusal). AcceptedShape (upper_shape (item_at s (upper_index x)))) e u.shape,
@@ -179,7 +187,7 @@ module _ (store : List ℕ) (ceiling : Ceiling) (s : List ℕ) (n : ℕ) (v : sh
       lower_roof lower roof e g = let f : roof ≡ sheet_roof s i = rw e g in (f, rw f roof_sound)
 
       pub figures_in : FiguresIn (sheet_national store s) (sheet_site s) (sheet_roof s i)
-      figures_in = record { national = national_in; site = site_in; roof = roof_sound }
+      figures_in = record { national = national_in store s sheet.accepted_store; site = site_in; roof = roof_sound }
 
 -- what any bytes have at an index
 module _ (store s : List ℕ) (i : ℕ) where

@@ -12,7 +12,7 @@ pub use roof_rows::NUMBERS;
 use roof_rows::list_roof;
 use sets_in_use::figures_for;
 use sheet::Sheet;
-use sheet_figures::{roof_in, site_in};
+use sheet_figures::{roof_of, site_of};
 use text::Writer;
 use upper_items::roof_order;
 
@@ -22,13 +22,13 @@ pub fn list_roofs(out: &mut Writer, sheet: Sheet, numbers: &mut [u32; NUMBERS])
     ensures { let s = sheet.entry.items.sheet.now in let n = sheet.entry.items.count in
         Wrote out.old (roofs_rows (sheet_national sheet.entry.store.numbers.now s) s (roof_order s n) (n - 1)) out.new }
 {
-    let site = site_in(sheet);
+    let site = site_of(sheet);
     let day = site.day;
     let national = figures_for(sheet.store, day);
     let roofs = roof_order(sheet.items);
     for k in 0..sheet.items.count() - 1 {
         let i = roofs[k];
-        let roof = roof_in(sheet, usize::from(i));
+        let roof = roof_of(sheet, usize::from(i));
         let figures = AcceptedFigures {
             national,
             site,

@@ -64,7 +64,7 @@ fn steep_valley(left: u32, right: u32) -> bool
     600 < left || 600 < right || (left == 600 && right == 600)
 }
 
-// Whether one of the first n valleys is refused; valley i lies between slopes 2i + 1 and 2i + 2.
+// Whether one of the first n valleys is refused; valley i lies between slopes 2i + 1 and 2i + 2. A chain, as that of the slopes.
 #[tactic(auto, unfolding(figures::specs::Spans::slope_of))]
 fn steep_among(spans: &Spans, n: usize) -> bool
     requires { n ≤ 15 }
@@ -73,10 +73,10 @@ fn steep_among(spans: &Spans, n: usize) -> bool
     (0..n).any(|i| steep_valley(spans.slopes[2 * i + 1].pitch, spans.slopes[2 * i + 2].pitch))
 }
 
-// Whether one of the valleys between n spans is refused.
+// Whether one of the first n valleys is refused.
 pub fn steep_valleys(spans: &Spans, n: usize) -> bool
-    requires { (1 ≤ n) × (n ≤ 16) }
-    ensures { result ≡ steep_valleys spans.now (n - 1) }
+    requires { n ≤ 15 }
+    ensures { result ≡ steep_valleys spans.now n }
 {
-    steep_among(spans, n - 1)
+    steep_among(spans, n)
 }

@@ -1,22 +1,22 @@
 // The figures of a lower roof that takes those of its upper roof from another item, kind 10. They are found here alone.
 #![tactic(auto)]
 
-ghost use Rattle.std.specs.Prelude.{◌≡◌, ◌≤◌, Ok};
+ghost use Rattle.std.specs.Prelude.{◌≡◌, ◌≤◌};
 ghost use Rattle.figures.specs.Slopes.{slope_at, AcceptedShape};
 ghost use Rattle.stepped_roofs.specs.Stepped.{is_upper, slope_width, whole_width, adjacent_slope, flat_slope, flat_roof, upper_shape, stepped_shape};
 
-use figures::{AbuttingRoof, GuardedSlope, LowerRoof, Shape, Slope};
+use figures::{AbuttingRoof, GuardedSlope, LowerRoof, Refusal, Shape, Slope};
 use item_forms::Item;
 use roof_slopes::slope_of;
 
-// Whether another roof may stand below an item's.
-pub fn is_upper(item: &Item) -> bool
-    ensures { result ≡ is_upper (Ok item.now) }
+// Whether another roof may stand below an item's, which may be refused for its form.
+pub fn is_upper(item: &Result<Item, Refusal>) -> bool
+    ensures { result ≡ is_upper item.now }
 {
     match item {
-        Item::SiteItem(_) => false,
-        Item::RoofItem(shape) => matches!(shape, Shape::Monopitch(_) | Shape::Pitched { .. }),
-        Item::LowerItem(_) => true,
+        Ok(Item::RoofItem(shape)) => matches!(shape, Shape::Monopitch(_) | Shape::Pitched { .. }),
+        Ok(Item::LowerItem(_)) => true,
+        Ok(Item::SiteItem(_)) | Err(_) => false,
     }
 }
 
@@ -59,15 +59,15 @@ fn flat_slope(width: u32) -> GuardedSlope
     }
 }
 
-// The upper roof that an item is. Above another, a lower roof is a flat roof of one slope. The definition has a shape for a site too, which
-// no roof stands below.
-pub fn upper_shape(item: &Item) -> Shape
-    ensures { result ≡ upper_shape (Ok item.now) }
+// The upper roof that an item is. Above another, a lower roof is a flat roof of one slope. The definition has a shape for a site too, and
+// for an item that is refused for its form, which no roof stands below.
+pub fn upper_shape(item: &Result<Item, Refusal>) -> Shape
+    ensures { result ≡ upper_shape item.now }
 {
     match item {
-        Item::SiteItem(_) => Shape::Monopitch(flat_slope(0)),
-        Item::RoofItem(shape) => *shape,
-        Item::LowerItem(lower) => Shape::Monopitch(flat_slope(lower.b2)),
+        Ok(Item::RoofItem(shape)) => *shape,
+        Ok(Item::LowerItem(lower)) => Shape::Monopitch(flat_slope(lower.b2)),
+        Ok(Item::SiteItem(_)) | Err(_) => Shape::Monopitch(flat_slope(0)),
     }
 }
 

@@ -48,7 +48,7 @@ impl<'a> Writer<'a> {
     }
 
     // Writes a number and the byte behind it.
-    fn put_field(&mut self, number: u32, behind: u8)
+    pub fn put_field(&mut self, number: u32, behind: u8)
         requires { self.old.at + 11 ≤ length self.old.bytes.now }
         ensures wrote { Wrote self.old (field number behind) self.new }
         ensures upper_bound { self.new.at ≤ self.old.at + 11 }

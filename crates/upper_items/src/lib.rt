@@ -4,11 +4,12 @@
 ghost use Rattle.std.specs.Prelude.{◌≡◌, ◌++◌, length, drop, replicate};
 ghost use Rattle.circles.specs.Following.{upper_in};
 ghost use Rattle.items.specs.Items.{content};
+ghost use Rattle.pairs.specs.Pairs.{PartsIn};
 ghost use Rattle.upper_items.specs.Uppers.{upper_index, upper, stepped_in, roof_order};
 
 use items::is_lower;
 use order::{list_by_index, list_order};
-use pairs::Items;
+use pairs::{Items, part_at};
 
 // The most items that a sheet has. Tables of items are as long, since the terminals have no heap.
 pub const ITEMS: usize = 32;
@@ -24,12 +25,13 @@ pub fn upper_index(p: &[u8]) -> u8
     if is_lower(p) { p[UPPER_BYTE] } else { 0 }
 }
 
-// Whether one of the items is a lower roof.
+// Whether one of the first n items is a lower roof, of any n that lie in the sheet.
 #[tactic(auto, unfolding(crate::specs::Uppers::stepped_in))]
-pub fn has_lower(items: Items) -> bool
-    ensures { result ≡ stepped_in items.entry.sheet.now items.entry.count }
+pub fn has_lower(s: &[u8], n: usize) -> bool
+    requires { PartsIn s.now n }
+    ensures { result ≡ stepped_in s.now n }
 {
-    (0..items.count()).any(|i| is_lower(items.part(i)))
+    (0..n).any(|i| is_lower(part_at(s, i)))
 }
 
 // The upper item of each of the items.
@@ -48,7 +50,7 @@ pub fn roof_order(items: Items) -> [u8; ITEMS]
     ensures { let roofs = roof_order items.entry.sheet.now items.entry.count in result ≡ roofs ++ drop (length roofs) (replicate 32 0) }
 {
     let mut roofs = [0; ITEMS];
-    if has_lower(items) {
+    if has_lower(items.bytes(), items.count()) {
         list_order(&uppers(items), items.count(), &mut roofs);
     } else {
         list_by_index(items.count(), &mut roofs);

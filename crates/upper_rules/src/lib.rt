@@ -21,7 +21,7 @@ use upper_items::{has_lower, upper_index, uppers};
 fn may_stand_above(items: Items, i: usize) -> bool
     ensures { result ≡ may_stand_above items.entry.sheet.now items.entry.count i }
 {
-    i < items.count() && matches!(&decode(items.part(i)), Ok(item) if is_upper(item))
+    i < items.count() && is_upper(&decode(items.part(i)))
 }
 
 // A lower roof is refused whose upper item may not stand above it.
@@ -66,7 +66,7 @@ pub fn uppers_verdict(items: Items) -> Result<usize, Refused>
     ensures { verdict_means result ≡ uppers_verdict items.entry.sheet.now items.entry.count }
 {
     let count = items.count();
-    if !has_lower(items) {
+    if !has_lower(items.bytes(), count) {
         return Ok(count);
     }
     check_uppers(items)?;

@@ -9,7 +9,7 @@ returns-then-not-has_forces-clause-wrote c =
     let sited = c.args.sited in
     wrote_as (none _)
     (no_forces sited.site sited.shape c.args.item
-    (rw c.kind.ensures at (sym c.has_forces.ensures ∙ c.if-not-has_forces.true)))
+    (rw (c.from.ensures, c.kind.ensures) at (sym c.has_forces.ensures ∙ c.if-not-has_forces.true)))
 
 pub returns-clause-wrote : goal.returns-clause-wrote
 unfolding force_rows

@@ -5,12 +5,12 @@ use Rattle.sheet_figures.proofs.found_in.Goals as goal
 
 pub returns-then-i-eq0 : goal.returns-then-i-eq0
 unfolding sheet_national
-returns-then-i-eq0 c = rw (c.if-i-eq0.true, c.figures_for-national.ensures.figures, c.site_in-site.ensures.0)
+returns-then-i-eq0 c = rw (c.if-i-eq0.true, c.figures_for-national.ensures.figures, c.site_of-site.ensures.0)
 
-pub roof_in-requires : goal.roof_in-requires
-roof_in-requires c = (omega (arith, c.if-i-eq0.false), c.requires)
+pub roof_of-requires : goal.roof_of-requires
+roof_of-requires c = (omega (arith, c.if-i-eq0.false), c.requires)
 
 pub returns : goal.returns
 unfolding sheet_national
 returns c =
-    rw (ne_eqb c.args.i 0 c.if-i-eq0.false, c.figures_for-national.ensures.figures, c.site_in-site.ensures.0, c.roof_in.ensures.0)
+    rw (ne_eqb c.args.i 0 c.if-i-eq0.false, c.figures_for-national.ensures.figures, c.site_of-site.ensures.0, c.roof_of.ensures.0)

@@ -17,7 +17,7 @@ here c = roof_in_table _ _ _ c.args.sheet.accepted _ (omega arith) _ c.roof_orde
 
 used : (c : After-figures_for-national) → c.figures_for-national.result ≡ sheet_national c.args.sheet.store.numbers.now c.args.sheet.items.sheet.now
 unfolding sheet_national
-used c = rw (c.figures_for-national.ensures.figures, c.site_in-site.ensures.0)
+used c = rw (c.figures_for-national.ensures.figures, c.site_of-site.ensures.0)
 
 pub overflow_sub-k-end : goal.overflow_sub-k-end
 overflow_sub-k-end c = omega (arith, some_items _ _ _ _ (accepted_is _ _ c.args.sheet.accepted))
@@ -26,9 +26,9 @@ pub loop-k-init : goal.loop-k-init
 unfolding roofs_rows
 loop-k-init c = (none _, omega arith)
 
-pub roof_in-roof-requires : goal.roof_in-roof-requires
-roof_in-roof-requires c =
-    let e = here (goal.at.roof_in-roof-requires c).In-loop-k in
+pub roof_of-roof-requires : goal.roof_of-roof-requires
+roof_of-roof-requires c =
+    let e = here (goal.at.roof_of-roof-requires c).In-loop-k in
     let some = some_roof _ _ _ c.args.sheet.accepted c.loop-k.k (omega arith) in
     let below = roof_below _ _ _ c.args.sheet.accepted c.loop-k.k (omega arith) in
     (omega (arith, e, some), omega (arith, e, below))
@@ -41,7 +41,7 @@ pub loop-k-preserved : goal.loop-k-preserved
 loop-k-preserved c =
     let e = here (goal.at.loop-k-preserved c).In-loop-k in
     let w =
-    rw (used (goal.at.loop-k-preserved c).After-figures_for-national, c.site_in-site.ensures.0, c.roof_in-roof.ensures.0, c.from.ensures ∙ e, c.from-in-loop-k.ensures ∙ e)
+    rw (used (goal.at.loop-k-preserved c).After-figures_for-national, c.site_of-site.ensures.0, c.roof_of-roof.ensures.0, c.from.ensures ∙ e, c.from-in-loop-k.ensures ∙ e)
     at c.list_roof.ensures.wrote in (
       wrote_as (then c.loop-k.invariant.0 w) (next_roof_lem _ _ _ c.loop-k.k),
       omega (arith, c.loop-k.invariant.1, c.list_roof.ensures.upper_bound),
