@@ -44,10 +44,15 @@ pub struct Wall {
 }
 
 impl Wall {
-    // ls = 2h, held by A8 to the range of the national figures.
+    // ls = 2h, held by A8 to the range of the national figures; in a store that 18 refuses the range may be turned round.
     fn drift_length(&self) -> u32 {
         let National { short, long, .. } = self.national;
-        self.roof.h.saturating_mul(2).min(long).max(short)
+        let twice = self.roof.h.saturating_mul(2);
+        if twice < short {
+            short
+        } else {
+            twice.min(long)
+        }
     }
 
     // μw: (b1 + b2)/2h, first limited above by 2h/sk and by the top of its range, then below by the bottom.

@@ -1,84 +1,106 @@
-// A roof by the words of a line: its kind, and its fields in the sheet's order.
-use crate::words::{read, read_two};
+// A roof by the numbers of a line: its kind, and its fields in the sheet's order.
+ghost use Rattle.std.specs.Prelude.{◌≤◌, IfSome};
+ghost use Rattle.stored_lines.specs.Lines.{SpansFit};
+
+use crate::words::Numbers;
 use figures::{
     AbuttingRoof, Arch, GuardedSlope, Kind, Obstruction, ProjectionRoof, Roof, Shape, Slope, Spans,
     Valley,
 };
-use std::str::SplitAsciiWhitespace;
 
 // The spans of the widest multi-span roof.
 const MOST_SPANS: usize = 16;
 
-pub fn read_roof(words: &mut SplitAsciiWhitespace<'_>) -> Option<Roof> {
-    let kind = Kind::try_from(read::<u8>(words)?).ok()?;
+// The roof that the numbers left give, if they are as many as its kind has.
+pub fn take_roof(numbers: &mut Numbers) -> Option<Roof>
+    ensures { IfSome result (λ roof. SpansFit roof.shape roof.spans) }
+{
+    let given = numbers.left();
+    let kind = Kind::try_from(u8::try_from(numbers.take()).ok()?).ok()?;
+    if !fits(kind, given) {
+        return None;
+    }
+    let shape = take_shape(numbers, kind)?;
+    let spans = match shape {
+        Shape::MultiSpan { drifts, .. } => take_spans(numbers, drifts),
+        _ => Spans::none(),
+    };
+    Some(Roof { shape, spans })
+}
+
+// Kind and fields. Kind 4 has four numbers for each span, beside kind and count. Kind 9 has six for each: four, and two for the valley
+// behind it, in place of which the last has kind and count. Stored roofs with a wrong count have other spans than they say.
+fn fits(kind: Kind, given: usize) -> bool {
     match kind {
-        Kind::MultiSpan => read_multi_span(words, false),
-        Kind::DriftedMultiSpan => read_multi_span(words, true),
-        _ => Some(Roof {
-            shape: read_shape(words, kind)?,
-            spans: Spans::none(),
+        Kind::Cylindrical => given == 3,
+        Kind::Monopitch | Kind::Projection | Kind::Parapet => given == 4,
+        Kind::SmallProjection => given == 5,
+        Kind::Pitched | Kind::Abutting | Kind::Stepped => given == 7,
+        Kind::MultiSpan => given % 4 == 2,
+        Kind::DriftedMultiSpan => given % 6 == 0,
+        Kind::Site | Kind::MapSite => false,
+    }
+}
+
+// The shape of a roof of a kind; sites have none.
+fn take_shape(numbers: &mut Numbers, kind: Kind) -> Option<Shape> {
+    match kind {
+        Kind::Monopitch => Some(take_monopitch(numbers)),
+        Kind::Pitched => Some(take_pitched(numbers)),
+        Kind::MultiSpan | Kind::DriftedMultiSpan => Some(Shape::MultiSpan {
+            count: numbers.take_byte(),
+            drifts: kind == Kind::DriftedMultiSpan,
         }),
+        Kind::Cylindrical => Some(Shape::Cylindrical(Arch {
+            rise: numbers.take(),
+            span: numbers.take(),
+        })),
+        Kind::Abutting | Kind::Stepped => Some(take_abutting(numbers, kind == Kind::Stepped)),
+        Kind::Projection => Some(Shape::Projection(ProjectionRoof {
+            h: numbers.take(),
+            left: numbers.take(),
+            right: numbers.take(),
+        })),
+        Kind::Parapet => Some(Shape::Obstructed(Obstruction::Parapet {
+            h: numbers.take(),
+            b1: numbers.take(),
+            b2: numbers.take(),
+        })),
+        Kind::SmallProjection => Some(Shape::Obstructed(Obstruction::SmallProjection {
+            h1: numbers.take(),
+            h2: numbers.take(),
+            b1: numbers.take(),
+            b2: numbers.take(),
+        })),
+        Kind::Site | Kind::MapSite => None,
     }
 }
 
-// The shape of a roof of one of the kinds without spans.
-fn read_shape(words: &mut SplitAsciiWhitespace<'_>, kind: Kind) -> Option<Shape> {
-    match kind {
-        Kind::Monopitch => read_monopitch(words),
-        Kind::Pitched => read_pitched(words),
-        Kind::Cylindrical => {
-            let (rise, span) = read_two(words)?;
-            Some(Shape::Cylindrical(Arch { rise, span }))
-        }
-        Kind::Abutting => read_abutting(words, false),
-        Kind::Stepped => read_abutting(words, true),
-        Kind::Projection => {
-            let h = read(words)?;
-            let (left, right) = read_two(words)?;
-            Some(Shape::Projection(ProjectionRoof { h, left, right }))
-        }
-        Kind::Parapet => {
-            let h = read(words)?;
-            let (b1, b2) = read_two(words)?;
-            Some(Shape::Obstructed(Obstruction::Parapet { h, b1, b2 }))
-        }
-        Kind::SmallProjection => {
-            let (h1, h2) = read_two(words)?;
-            let (b1, b2) = read_two(words)?;
-            Some(Shape::Obstructed(Obstruction::SmallProjection { h1, h2, b1, b2 }))
-        }
-        _ => None,
+fn take_monopitch(numbers: &mut Numbers) -> Shape {
+    let (pitch, guard) = (numbers.take(), numbers.take_byte());
+    Shape::Monopitch(guarded(pitch, numbers.take(), guard))
+}
+
+fn take_pitched(numbers: &mut Numbers) -> Shape {
+    let (left_pitch, right_pitch) = (numbers.take(), numbers.take());
+    let (left_guard, right_guard) = (numbers.take_byte(), numbers.take_byte());
+    Shape::Pitched {
+        left: guarded(left_pitch, numbers.take(), left_guard),
+        right: guarded(right_pitch, numbers.take(), right_guard),
     }
 }
 
-fn read_monopitch(words: &mut SplitAsciiWhitespace<'_>) -> Option<Shape> {
-    let (pitch, guard) = read_two(words)?;
-    let slope = guarded(pitch, read(words)?, guard);
-    Some(Shape::Monopitch(slope))
-}
-
-fn read_pitched(words: &mut SplitAsciiWhitespace<'_>) -> Option<Shape> {
-    let (left_pitch, right_pitch) = read_two(words)?;
-    let (left_guard, right_guard) = read_two(words)?;
-    let (left_width, right_width) = read_two(words)?;
-    Some(Shape::Pitched {
-        left: guarded(left_pitch, left_width, left_guard),
-        right: guarded(right_pitch, right_width, right_guard),
-    })
-}
-
-fn read_abutting(words: &mut SplitAsciiWhitespace<'_>, stepped: bool) -> Option<Shape> {
-    let (b1, b2) = read_two(words)?;
-    let (h, width) = read_two(words)?;
-    let (pitch, guard) = read_two(words)?;
-    let slope = guarded(pitch, width, guard);
-    Some(Shape::Abutting(AbuttingRoof {
+fn take_abutting(numbers: &mut Numbers, stepped: bool) -> Shape {
+    let (b1, b2, h) = (numbers.take(), numbers.take(), numbers.take());
+    let (width, pitch) = (numbers.take(), numbers.take());
+    let slope = guarded(pitch, width, numbers.take_byte());
+    Shape::Abutting(AbuttingRoof {
         b1,
         b2,
         h,
         slope,
         stepped,
-    }))
+    })
 }
 
 fn guarded(pitch: u32, width: u32, guard: u8) -> GuardedSlope {
@@ -86,43 +108,49 @@ fn guarded(pitch: u32, width: u32, guard: u8) -> GuardedSlope {
     GuardedSlope { slope, guard }
 }
 
-// Behind the count the line has four numbers for each span, and of a roof with drifts two for each valley between them. Stored
-// roofs with a wrong count have other spans than they say.
-fn read_multi_span(words: &mut SplitAsciiWhitespace<'_>, drifts: bool) -> Option<Roof> {
-    let count = read(words)?;
-    let left = words.clone().ok()?.count();
-    let given = if drifts {
-        left.saturating_add(2) / 6
-    } else {
-        left / 4
-    };
-    let mut spans = Spans::none();
-    for i in 0..given.min(MOST_SPANS) {
-        let (left, right) = read_span(words)?;
-        spans.slopes[2 * i] = left;
-        spans.slopes[2 * i + 1] = right;
-    }
+// How many spans the line has numbers for, six each where there are drifts; without drifts it may have fewer.
+fn spans_given(numbers: &Numbers, drifts: bool) -> usize
+    ensures { result ≤ 33 }
+{
     if drifts {
-        for valley in spans.valleys.iter_mut().take(given.saturating_sub(1)) {
-            let (h, b3) = read_two(words)?;
-            *valley = Valley { h, b3 };
+        (numbers.left() + 2) / 6
+    } else {
+        MOST_SPANS
+    }
+}
+
+// The slopes of all spans stand before the valleys. Spans that the widest roof has no room for are passed over; what the line lacks are
+// zeros.
+fn take_spans(numbers: &mut Numbers, drifts: bool) -> Spans {
+    let mut spans = Spans::none();
+    for i in 0..spans_given(numbers, drifts) {
+        let (left, right) = take_span(numbers);
+        if i < MOST_SPANS {
+            spans.slopes[2 * i] = left;
+            spans.slopes[2 * i + 1] = right;
         }
     }
-    let shape = Shape::MultiSpan { count, drifts };
-    Some(Roof { shape, spans })
+    if drifts {
+        for valley in &mut spans.valleys {
+            *valley = Valley {
+                h: numbers.take_or_zero(),
+                b3: numbers.take_or_zero(),
+            };
+        }
+    }
+    spans
 }
 
 // The slopes of a span.
-fn read_span(words: &mut SplitAsciiWhitespace<'_>) -> Option<(Slope, Slope)> {
-    let (left_pitch, right_pitch) = read_two(words)?;
-    let (left_width, right_width) = read_two(words)?;
+fn take_span(numbers: &mut Numbers) -> (Slope, Slope) {
+    let (left_pitch, right_pitch) = (numbers.take_or_zero(), numbers.take_or_zero());
     let left = Slope {
         pitch: left_pitch,
-        width: left_width,
+        width: numbers.take_or_zero(),
     };
     let right = Slope {
         pitch: right_pitch,
-        width: right_width,
+        width: numbers.take_or_zero(),
     };
-    Some((left, right))
+    (left, right)
 }

@@ -2,7 +2,7 @@
 ghost use Rattle.std.specs.Prelude.{◌≡◌, ◌↔◌, IsTrue};
 ghost use Rattle.canonical_sheets.specs.Canonical.{archived};
 
-use crate::records::{Damaged, Record, Records};
+use crate::records::{Damaged, Record, Records, StoredFile};
 use canonical_sheets::{SHEET_BYTES, STORE_NUMBERS, archive};
 use std::io;
 
@@ -15,12 +15,12 @@ fn agrees(store: &[u32], stored: Record<'_>, room: &mut [u8; SHEET_BYTES]) -> bo
 }
 
 // Compares the records of a file in turn, with an empty store, and writes what they came to.
-pub fn compare(rt: &impl Print, bytes: &[u8]) -> io::Result<()> {
+pub fn compare(rt: &impl Print, file: StoredFile<'_>) -> io::Result<()> {
     let store = [0; STORE_NUMBERS];
     let mut room = [0; SHEET_BYTES];
     let mut layouts = 0u64;
     let mut agree = 0u64;
-    for (number, record) in Records::new(bytes).enumerate() {
+    for (number, record) in Records::new(file).enumerate() {
         match record {
             Ok(record) => {
                 let as_stored = agrees(&store, record, &mut room);

@@ -14,42 +14,66 @@ ghost use Rattle.listing.specs.Listing.{list_room};
 
 use anyhow::{Context, Result};
 use listing::LIST_ROOM;
-use program_inputs::argument;
-use records::{Damaged, Records};
-use report::Totals;
-use std::{fs, io};
+use program_inputs::{argument, read_full};
+use records::{Damaged, Records, StoredFile};
+use report::{LAST_LINES, LINES_ROOM, Totals};
+use std::fs;
+use std::io::Read;
 
 // Room for any file's name. `worked` has its own: sharing the number would be no shorter.
 const PATH_ROOM: usize = 4_096;
 
-// Compares the records of a file in turn and writes what they came to; the room takes one listing after the other.
-fn compare(rt: &impl Print, bytes: &[u8], room: &mut [u8]) -> io::Result<()>
+// Room for the file of sheets. What lies past it is not read, and counts as damaged.
+const FILE_ROOM: usize = 524_288;
+
+// Reads a file as far as the room for it goes, in one pass. One read more tells whether it goes on.
+fn read_file<'a>(file: &mut impl Read, room: &'a mut [u8]) -> Result<StoredFile<'a>> {
+    let n = read_full(file, room).context("read")?;
+    let goes_on = file.read(&mut [0]).context("read")? > 0;
+    Ok(StoredFile {
+        bytes: &room[..n],
+        goes_on,
+    })
+}
+
+// Compares the records of a file in turn and writes at once what they came to; the room takes one listing after the other. Where most
+// sheets differ, the lines on the last of them are left out.
+fn compare(rt: &(impl AllocGlobal + Print), file: StoredFile<'_>, room: &mut [u8]) -> Result<()>
     requires { list_room ≤ length room.old }
 {
+    let mut lines = String::with_capacity(rt.alloc(), LINES_ROOM)?;
     let mut totals = Totals::default();
-    for (number, record) in Records::new(bytes).enumerate() {
+    for (number, record) in Records::new(file).enumerate() {
         match record {
             Ok(record) => {
                 let outcome = listed::compare(record, room);
-                if !outcome.is_as_stored() {
-                    println!(rt; "DIFFERENT {number}")?;
+                if !outcome.is_as_stored() && lines.len() <= LINES_ROOM - LAST_LINES {
+                    writeln!(lines, "DIFFERENT {number}")?;
                 }
                 totals.add(outcome);
             }
-            Err(Damaged) => println!(rt; "DAMAGED {number}")?,
+            Err(Damaged) => writeln!(lines, "DAMAGED {number}")?,
         }
     }
-    println!(rt; "{totals}")
+    writeln!(lines, "{totals}")?;
+    rt.write_all(lines.as_bytes()).context("write")
 }
 
-// Reads the files that the two arguments name, or says why it can't.
+// Reads the files that the two arguments name, or says why it can't. The lines on the first are written before the second argument is
+// looked at.
 fn main(rt: HostRuntime) -> Result<()> {
     let mut path_room = [0u8; PATH_ROOM];
     let path = argument(&rt, 1, &mut path_room).context("file name")?;
-    let bytes = fs::read(&rt, path).context(path)?;
+    let mut file = fs::open(&rt, path).context(path)?;
+    let mut file_room = vec![in rt.alloc(); 0u8; FILE_ROOM]?;
+    let sheets = read_file(&mut file, &mut file_room)?;
     let mut room = vec![in rt.alloc(); 0u8; LIST_ROOM]?;
-    compare(&rt, &bytes, &mut room).context("write")?;
+    compare(&rt, sheets, &mut room)?;
     let path = argument(&rt, 2, &mut path_room).context("file name")?;
     let bytes = fs::read(&rt, path).context(path)?;
-    layouts::compare(&rt, &bytes).context("write")
+    let layouts = StoredFile {
+        bytes: &bytes,
+        goes_on: false,
+    };
+    layouts::compare(&rt, layouts).context("write")
 }

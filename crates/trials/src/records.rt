@@ -1,5 +1,5 @@
 // The records of a file, one after the other: the sizes of a sheet and of its text in 32 bits each, the sheet, the text.
-ghost use Rattle.std.specs.Prelude.{◌<◌, length, IfSome};
+ghost use Rattle.std.specs.Prelude.{◌+◌, ◌<◌, cond, length, IfSome};
 ghost use Rattle.std.specs.Iterator.{at_most};
 
 // A stored sheet, and the text that is stored with it.
@@ -9,7 +9,14 @@ pub struct Record<'a> {
     pub text: &'a [u8],
 }
 
-// In the place of a record that runs past the end of the file.
+// A file as far as there is room for it, and whether it goes on behind that.
+#[derive(Clone, Copy, Debug)]
+pub struct StoredFile<'a> {
+    pub bytes: &'a [u8],
+    pub goes_on: bool,
+}
+
+// In the place of a record that runs past the end of the file, or past the room for it.
 #[derive(Clone, Copy, Debug)]
 pub struct Damaged;
 
@@ -17,21 +24,25 @@ pub struct Damaged;
 #[derive(Clone, Copy, Debug)]
 pub struct Records<'a> {
     rest: &'a [u8],
+    goes_on: bool,
 }
 
 impl<'a> Records<'a> {
-    pub fn new(file: &'a [u8]) -> Records<'a> {
-        Records { rest: file }
+    pub fn new(file: StoredFile<'a>) -> Records<'a> {
+        Records {
+            rest: file.bytes,
+            goes_on: file.goes_on,
+        }
     }
 }
 
 impl<'a> Iterator for Records<'a> {
     type Item = Result<Record<'a>, Damaged>;
 
-    ghost remaining = { λ s. at_most (length s.rest.now) };
+    ghost remaining = { λ s. at_most (length s.rest.now + cond s.goes_on 1 0) };
 
     fn next(&mut self) -> Option<Result<Record<'a>, Damaged>> {
-        if self.rest.is_empty() {
+        if self.rest.is_empty() && !self.goes_on {
             return None;
         }
         match split_first_record(self.rest) {
@@ -41,6 +52,7 @@ impl<'a> Iterator for Records<'a> {
             }
             None => {
                 self.rest = &[];
+                self.goes_on = false;
                 Some(Err(Damaged))
             }
         }

@@ -2,6 +2,12 @@
 use crate::listed::Outcome;
 use std::fmt;
 
+// Room for the lines on a file of sheets, which are written at once.
+pub const LINES_ROOM: usize = 65_536;
+
+// Enough of it for a line on a sheet that differs and the last three lines.
+pub const LAST_LINES: usize = 208;
+
 // How many sheets there are, how many of them the library refuses and how many have their stored text; how many are inside the
 // quote desk's ceiling, and how many the desk reads as it must.
 #[derive(Clone, Copy, Debug, Default)]

@@ -27,8 +27,9 @@ pub fn compare_case(report: &mut Report, store: &[u32], case: &Case) {
             };
             return report.roofs.compare_refused(&given, refusal);
         }
+        // A place past the slice counts from its beginning again.
         Question::Number { place, figure } => {
-            Made::new(&given, code).numbers.get(place) == Some(&figure)
+            Made::new(&given, code).numbers[place % 128] == figure
         }
         Question::Load { station, figure } => given.load(code, station) == Ok(figure),
         Question::Overhang { slope, force } => given.overhang(slope) == Ok(force),

@@ -1,13 +1,15 @@
 // The lines of a file: what they give together, and then each that asks for something.
 use crate::cases::compare_case;
 use crate::report::Report;
-use anyhow::Result;
-use counts::Compared;
 use figures::{Roof, Site};
 use second_sets::{STORE_NUMBERS, put_set};
 use std::alloc::{AllocError, Global};
-use stored_lines::{Job, Line};
+use stored_lines::{Job, Line, UnreadableLine};
 use worked_roofs::{Given, Tally};
+
+fn is_line_end(byte: &u8) -> bool {
+    *byte == b'\n'
+}
 
 // What the lines give together: the store of their sets, and the sites and the jobs for their roofs.
 #[derive(Drop)]
@@ -18,17 +20,17 @@ struct Setting {
 }
 
 impl Setting {
-    fn of(alloc: Global, lines: &[Line]) -> Result<Setting, AllocError> {
+    fn of(alloc: Global, text: &[u8]) -> Result<Setting, AllocError> {
         let mut setting = Setting {
             store: [0; STORE_NUMBERS],
             sites: Vec::new(alloc),
             jobs: Vec::new(alloc),
         };
-        for line in lines {
-            match line {
-                Line::Set(set) => put_set(&mut setting.store, set).unwrap_or(()),
-                Line::Site(site) => setting.sites.push(*site)?,
-                Line::Job(job) => setting.jobs.push(*job)?,
+        for line in text.split_inclusive(is_line_end) {
+            match Line::given(line) {
+                Some(Line::Set(set)) => put_set(&mut setting.store, &set).unwrap_or(()),
+                Some(Line::Site(site)) => setting.sites.push(site)?,
+                Some(Line::Job(job)) => setting.jobs.push(job)?,
                 _ => {}
             }
         }
@@ -56,42 +58,37 @@ impl Setting {
     }
 }
 
-// The lines of a text but for comments and empty ones. One that can't be read goes to standard error.
-fn read_lines(
-    rt: &(impl AllocGlobal + Eprint),
-    count: &mut Compared,
-    text: &str,
-) -> Result<Vec<Line>> {
-    let mut lines = Vec::new(rt.alloc());
-    for text in text.lines() {
-        if text.is_empty() || text.starts_with('#') {
+// Compares what every line asks for, under the store of all the sets; comments and empty lines ask for nothing. One that can't be read
+// goes to standard error as it stands.
+pub fn compare_lines(
+    alloc: Global,
+    errors: &impl Print,
+    report: &mut Report,
+    text: &[u8],
+) -> Result<(), AllocError> {
+    let setting = Setting::of(alloc, text)?;
+    for line in text.split_inclusive(is_line_end) {
+        if line.starts_with(b"#") || line.starts_with(b"\n") {
             continue;
         }
-        let line = text.parse();
-        count.compare(line.is_err());
-        match line {
-            Ok(line) => lines.push(line)?,
-            Err(_) => eprintln!(rt; "{text}")?,
-        }
-    }
-    Ok(lines)
-}
-
-// Compares what every line asks for, under the store of all the sets.
-pub fn compare_lines(
-    rt: &(impl AllocGlobal + Eprint),
-    report: &mut Report,
-    text: &str,
-) -> Result<()> {
-    let lines = read_lines(rt, &mut report.lines, text)?;
-    let setting = Setting::of(rt.alloc(), &lines)?;
-    for line in &lines {
-        match line {
-            Line::Set(_) | Line::Site(_) | Line::Job(_) => {}
-            Line::Compare(roof) => setting.compare(&mut report.roofs, roof),
-            Line::Pitches(pitches) => report.roofs.compare_pitches(&setting.store, pitches),
-            Line::Case(case) => compare_case(report, &setting.store, case),
+        let read = Line::read(line);
+        report.lines.compare(read.is_err());
+        match read {
+            Ok(read) => compare_line(report, &setting, &read),
+            // The counts show the line even where it can't be written.
+            Err(UnreadableLine) => {
+                let _ = errors.write_all(line);
+            }
         }
     }
     Ok(())
+}
+
+fn compare_line(report: &mut Report, setting: &Setting, line: &Line) {
+    match line {
+        Line::Set(_) | Line::Site(_) | Line::Job(_) => {}
+        Line::Compare(roof) => setting.compare(&mut report.roofs, roof),
+        Line::Pitches(pitches) => report.roofs.compare_pitches(&setting.store, pitches),
+        Line::Case(case) => compare_case(report, &setting.store, case),
+    }
 }

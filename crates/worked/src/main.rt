@@ -10,22 +10,32 @@ mod report;
 
 use anyhow::{Context, Result};
 use lines::compare_lines;
-use program_inputs::argument;
+use program_inputs::{argument, read_full};
 use report::Report;
 use std::fs;
 
 // Room for any file's name. `trials` has its own: sharing the number would be no shorter.
 const PATH_ROOM: usize = 4_096;
 
-// Compares the lines of the file that an argument names.
+// Room for a file.
+const FILE_ROOM: usize = 65_536;
+
+// Compares the lines of the file that an argument names. What lies past the room for it is not read, which is said and shows in the
+// counts.
 fn compare_file(rt: &HostRuntime, report: &mut Report, number: usize) -> Result<()> {
     let mut path_room = [0u8; PATH_ROOM];
     let path = argument(rt, number, &mut path_room).context("file name")?;
-    let text = fs::read_to_string(rt, path).context(path)?;
-    if text.is_empty() {
+    let mut file = fs::open(rt, path).context(path)?;
+    let mut room = [0u8; FILE_ROOM];
+    let n = read_full(&mut file, &mut room).context("read")?;
+    if n == 0 {
         eprintln!(rt; "read: the file is empty")?;
     }
-    compare_lines(rt, report, text.as_str())
+    if n == FILE_ROOM {
+        eprintln!(rt; "read: the file is too long")?;
+    }
+    compare_lines(rt.alloc(), &rt.stderr(), report, &room[..n])?;
+    Ok(())
 }
 
 fn main(rt: HostRuntime) -> Result<()> {

@@ -7,6 +7,7 @@ use crate::tally::Tally;
 use crate::turned::{compare_turned, compare_turned_refusal};
 use figures::National;
 use second::LoadCase;
+use second_sets::STORE_NUMBERS;
 use stored_lines::Pitches;
 
 // A code that the roof hasn't, and a job that no set has begun for. Expected refusals are the documents' numbers, as stored cases and the
@@ -15,10 +16,23 @@ const NO_ARRANGEMENT: u8 = 13;
 
 const NO_SET_BEGUN: u8 = 19;
 
+// The numbers of a store and of one set more.
+const LONGER_STORE: usize = STORE_NUMBERS + 6;
+
+// The national figures that the job uses by the second calculation. A store may say that it has more sets than there is room for: there
+// stand zeros.
+fn figures_in_use(given: &Given<'_>) -> Option<National> {
+    let mut numbers = [0; LONGER_STORE];
+    for (place, number) in numbers.iter_mut().zip(given.store) {
+        *place = *number;
+    }
+    second_sets::figures_on(&numbers, given.site.day)
+}
+
 impl Tally {
     // The job is refused by 19, or the roof is tried in every code, and at the slopes that a roof may have and two that no roof has.
     pub fn compare(&mut self, given: &Given<'_>) {
-        let Some(national) = second_sets::figures_on(given.store, given.site.day) else {
+        let Some(national) = figures_in_use(given) else {
             let refusal = ExpectedRefusal {
                 code: 2,
                 other_code: 99,

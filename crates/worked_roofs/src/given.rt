@@ -1,6 +1,9 @@
 // What every call is given, and the calls on it. A refusal is told by the documents' number.
 use figures::{Roof, Site};
 
+// What is added to the number of a refusal in the place of a load.
+const REFUSED: u32 = 4_000_000_000;
+
 // A lent store, a site with the day of its job, and a roof.
 #[derive(Clone, Copy)]
 pub struct Given<'a> {
@@ -19,6 +22,12 @@ impl Given<'_> {
     // The load read at a station.
     pub fn load(&self, code: u8, station: u32) -> Result<u32, u8> {
         reading::load_at(self.store, self.site, *self.roof, code, station).map_err(u8::from)
+    }
+
+    // The load read at a station. A refusal is told by a number above any load: 4,000,000,000 and the documents' number.
+    pub(crate) fn load_or_refusal(&self, code: u8, station: u32) -> u32 {
+        self.load(code, station)
+            .unwrap_or_else(|number| REFUSED + u32::from(number))
     }
 
     // The force at the eave of a slope.

@@ -36,12 +36,9 @@ impl Readings {
         }
     }
 
-    // Reads at a station.
+    // Reads at a station. A refusal counts as a load far above any.
     fn add(&mut self, given: &Given<'_>, expected: &LoadCase<'_>, station: u32) {
-        let Ok(load) = given.load(expected.code, station) else {
-            self.loads.compare(true);
-            return;
-        };
+        let load = given.load_or_refusal(expected.code, station);
         let above = |thousandths| expected.above_exact(station, load, thousandths);
         let falls = falls(given, expected.code, station, load);
         self.loads
@@ -66,9 +63,7 @@ fn falls(given: &Given<'_>, code: u8, station: u32, load: u32) -> bool {
         sk: sk + 1,
         ..given.site
     };
-    Given { site, ..*given }
-        .load(code, station)
-        .is_ok_and(|heavier| heavier < load)
+    Given { site, ..*given }.load_or_refusal(code, station) < load
 }
 
 // The stations of a segment: its ends, a quarter millimetre beside them, and two places between, scattered by the count of readings
