@@ -15,24 +15,24 @@ pub const NONE: u32 = 0xFFFF_FFFF;
 
 // A refusal by any number of 8 bits, with the item that it names. An index above 65,535 shows as that.
 #[tactic(auto, unfolding(crate::specs::Codes::refusal_code))]
-pub fn refusal_by_number(number: u8, item: usize) -> u32
+pub fn refusal(number: u8, item: usize) -> u32
     ensures { result ≡ refusal_code number item }
 {
     0x8000_0000 + 65_536 * u32::from(number) + item.min(65_535) as u32
 }
 
-// A refusal with its number and the item that it names.
-pub fn refusal(refused: Refused) -> u32
+// One of the refusals that there are, with the item that it names.
+pub fn refused(refused: Refused) -> u32
     ensures { result ≡ refusal_code (number_of refused.refusal) refused.item }
 {
-    refusal_by_number(u8::from(refused.refusal), refused.item)
+    refusal(u8::from(refused.refusal), refused.item)
 }
 
 // A number, or a refusal.
 pub fn number(answer: Result<u32, Refused>) -> u32
     ensures { result ≡ answer_code (answer_means answer) }
 {
-    answer.unwrap_or_else(refusal)
+    answer.unwrap_or_else(refused)
 }
 
 // A count of items, of segments or of bytes, or a refusal.

@@ -4,7 +4,7 @@
 ghost use Rattle.std.specs.Prelude.{◌≡◌, ◌≢◌, ◌+◌, ◌≤◌, MatchResult, length};
 ghost use Rattle.item_forms.specs.Forms.{slope_at};
 
-use figures::{LowerRoof, Refusal, Shape, SiteData, Slope};
+use figures::{LowerRoof, Refusal, Shape, SiteData, Slope, Spans};
 use little_endian::{u16_at, u32_at};
 
 // What an item's bytes say: a site, a roof by its shape, or a lower roof whose shape an upper item completes. The spans of a multi-span
@@ -14,6 +14,13 @@ pub enum Item {
     SiteItem(SiteData),
     RoofItem(Shape),
     LowerItem(LowerRoof),
+}
+
+// An item, or its refusal, with the spans of a multi-span roof beside it; any other has none there.
+#[derive(Clone, Copy, Debug, PartialEq, Eq)]
+pub struct Decoded {
+    pub item: Result<Item, Refusal>,
+    pub spans: Spans,
 }
 
 // An item that isn't of its kind's length is refused.

@@ -6,7 +6,7 @@ ghost use Rattle.figures.specs.Refusal.{number_in};
 ghost use Rattle.item_rules.specs.Rules.{job_refusal, rule_of, LaterRule};
 
 use figures::{Refusal, SiteData};
-use items::{Item, decode, spans_in};
+use items::{Item, content_of, spans_in};
 use lower_rules::check_lower;
 use map_sites::check_site_data;
 use national_sets::Store;
@@ -26,7 +26,7 @@ fn check_job(store: Store, fields: SiteData) -> Result<(), Refusal>
 fn check_first(store: Store, p: &[u8]) -> Result<(), Refusal>
     ensures { number_in result ≡ rule_of store.entry.numbers.now 0 p.now }
 {
-    let item = decode(p)?;
+    let item = content_of(p)?;
     let Item::SiteItem(fields) = item else {
         return Err(Refusal::SitePlace);
     };
@@ -37,7 +37,7 @@ fn check_first(store: Store, p: &[u8]) -> Result<(), Refusal>
 fn check_later(p: &[u8]) -> Result<(), Refusal>
     ensures { LaterRule (number_in result) p.now }
 {
-    let item = decode(p)?;
+    let item = content_of(p)?;
     if let Item::LowerItem(lower) = item {
         return check_lower(lower);
     }

@@ -18,7 +18,7 @@ use Rattle.item_forms.specs.declared.Item.{Item}
 use Rattle.item_forms.specs.declared.Item.TheVariants.{SiteItem, RoofItem, LowerItem}
 use Rattle.site_items.specs.SiteItems.{site_item, map_site_item}
 use Rattle.roof_items.specs.RoofItems.{monopitch_item, pitched_item, cylindrical_item, abutting_item, projection_item, lower_item, parapet_item, small_projection_item}
-use Rattle.span_items.specs.SpanItems.{SpansThere, multi_span_item, drifted_item}
+use Rattle.span_items.specs.SpanItems.{SpansThere, SpansHeld, multi_span_item, drifted_item}
 use Rattle.items.specs.Items.{by_kind, content}
 
 -- a refusal, a site, a roof whose spans are there, and a lower roof, which has kind 10 and 11 bytes
@@ -71,3 +71,6 @@ spans_there p {shape} e =
 
     same : {x s : Shape} → ◌≡◌ {A = Result Item Refusal} (Ok (RoofItem x)) (Ok (RoofItem s)) → x ≡ s
     same h = cc
+
+pub spans_held : (p : List ℕ) → SpansHeld (content p) p
+spans_held p = by_content (λ (d : Result Item Refusal). SpansHeld d p) p (λ e. tt) (λ fields. tt) (λ shape t. t) (λ fields k l. tt)

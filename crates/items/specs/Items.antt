@@ -1,15 +1,12 @@
 -- An item: its first byte is its kind; fields follow in the order that documents 01 and 02 give.
-use Rattle.std.specs.Prelude.{ℕ, cond, List, eqb, length, Result, Ok, Err}
+use Rattle.std.specs.Prelude.{ℕ, cond, List, eqb, length, Result, Err}
 use Rattle.figures.specs.declared.refusal.Refusal.{Refusal}
 use Rattle.figures.specs.declared.refusal.Refusal.TheVariants.{UnknownKind, ItemLength}
 use Rattle.little_endian.specs.Numbers.{byte_at}
-use Rattle.figures.specs.Spans.{no_spans}
-use Rattle.figures.specs.declared.slopes.Spans.{Spans}
 use Rattle.item_forms.specs.declared.Item.{Item}
-use Rattle.item_forms.specs.declared.Item.TheVariants.{SiteItem, RoofItem, LowerItem}
 use Rattle.site_items.specs.SiteItems.{site_item, map_site_item}
 use Rattle.roof_items.specs.RoofItems.{monopitch_item, pitched_item, cylindrical_item, abutting_item, projection_item, lower_item, parapet_item, small_projection_item}
-use Rattle.span_items.specs.SpanItems.{multi_span_item, drifted_item, spans_said}
+use Rattle.span_items.specs.SpanItems.{multi_span_item, drifted_item}
 
 -- by its kind; "3 unknown kind"
 unfoldable pub by_kind : ℕ → List ℕ → Result Item Refusal
@@ -31,13 +28,3 @@ by_kind kind p =
 -- what an item's bytes say: "empty (4), 3, 4"
 unfoldable pub content : List ℕ → Result Item Refusal
 content p = cond (eqb (length p) 0) (Err ItemLength) (by_kind (byte_at p 0) p)
-
--- the spans that an item's bytes say with it: a multi-span roof's slopes, and of kind 9 "for each valley its depth h and length b3"
-abbrev pub spans_by : Result Item Refusal → List ℕ → Spans
-spans_by (Ok (SiteItem fields)) p = no_spans
-spans_by (Ok (RoofItem shape)) p = spans_said shape p
-spans_by (Ok (LowerItem lower)) p = no_spans
-spans_by (Err refusal) p = no_spans
-
-unfoldable pub spans_of : List ℕ → Spans
-spans_of p = spans_by (content p) p

@@ -12,7 +12,7 @@ ghost use Rattle.upper_items.specs.Uppers.{item_at};
 ghost use Rattle.sheet_figures.specs.Find.{sheet_site, sheet_roof, found_of, found_in, found, found_means};
 
 use figures::{AcceptedFigures, LowerRoof, National, Roof, Shape, Site, Spans};
-use items::{Item, decode, spans_in};
+use items::{Item, content_of, spans_in};
 use map_sites::site_from;
 use pairs::part_at;
 use sets_in_use::figures_for;
@@ -31,7 +31,7 @@ pub fn site_in(s: &[u8]) -> Site
     requires { ItemIn s.now 0 }
     ensures { (result ≡ sheet_site s.now) × (site_refusal result ≡ 0) }
 {
-    let Ok(item) = decode(part_at(s, 0)) else {
+    let Ok(item) = content_of(part_at(s, 0)) else {
         unreachable!();
     };
     let Item::SiteItem(fields) = item else {
@@ -52,7 +52,7 @@ fn shape_below(s: &[u8], lower: LowerRoof) -> Shape
     requires { PartIn s.now lower.upper × AcceptedShape (upper_shape (item_at s.now lower.upper)) }
     ensures { result ≡ stepped_shape lower (upper_shape (item_at s.now lower.upper)) }
 {
-    let above = decode(part_at(s, usize::from(lower.upper)));
+    let above = content_of(part_at(s, usize::from(lower.upper)));
     stepped_shape(lower, upper_shape(&above))
 }
 
@@ -62,7 +62,7 @@ pub fn roof_in(s: &[u8], i: usize) -> Roof
     ensures { (result ≡ sheet_roof s.now i) × (roof_refusal result ≡ 0) }
 {
     let p = part_at(s, i);
-    let Ok(item) = decode(p) else {
+    let Ok(item) = content_of(p) else {
         unreachable!();
     };
     if let Item::LowerItem(lower) = item {

@@ -1,5 +1,5 @@
 -- The items of a multi-span roof: kind 4 of document 01, and kind 9 of document 02.
-use Rattle.std.specs.Prelude.{ℕ, ◌+◌, ◌-◌, ◌*◌, ◌≤◌, ◌<◌, true, false, cond, List, eqb, length, Result, Err}
+use Rattle.std.specs.Prelude.{ℕ, ◌+◌, ◌-◌, ◌*◌, ◌≤◌, ◌<◌, true, false, cond, List, eqb, length, Result, Ok, Err}
 use Rattle.figures.specs.Spans.{no_spans}
 use Rattle.figures.specs.declared.refusal.Refusal.{Refusal}
 use Rattle.figures.specs.declared.refusal.Refusal.TheVariants.{ItemLength}
@@ -8,8 +8,9 @@ use Rattle.figures.specs.declared.roof.Shape.TheVariants.{Monopitch, Pitched, Mu
 use Rattle.figures.specs.declared.slopes.Spans.{Spans}
 use Rattle.little_endian.specs.Numbers.{byte_at}
 use Rattle.item_forms.specs.Forms.{sized}
+use Rattle.item_forms.specs.declared.Decoded.{Decoded}
 use Rattle.item_forms.specs.declared.Item.{Item}
-use Rattle.item_forms.specs.declared.Item.TheVariants.{RoofItem}
+use Rattle.item_forms.specs.declared.Item.TheVariants.{SiteItem, RoofItem, LowerItem}
 use Rattle.span_numbers.specs.SpanNumbers.{slopes_from, spans_held, drifted_from}
 
 -- 4, multi-span: span count (8), then per span pitch left, pitch right (16), width left, width right (32); 2 + 12 × count bytes
@@ -47,3 +48,21 @@ SpansThere (Cylindrical arch) p = Unit
 SpansThere (Abutting roof) p = Unit
 SpansThere (Projection roof) p = Unit
 SpansThere (Obstructed by) p = Unit
+
+-- the spans that an item's bytes say with it: a multi-span roof's slopes, and of kind 9 "for each valley its depth h and length b3"
+abbrev pub spans_by : Result Item Refusal → List ℕ → Spans
+spans_by (Ok (SiteItem fields)) p = no_spans
+spans_by (Ok (RoofItem shape)) p = spans_said shape p
+spans_by (Ok (LowerItem lower)) p = no_spans
+spans_by (Err refusal) p = no_spans
+
+-- an item with its spans beside it
+abbrev pub with_spans : Result Item Refusal → List ℕ → Decoded
+with_spans item p = record { item = item; spans = spans_by item p }
+
+-- the bytes of an item's spans are there
+abbrev pub SpansHeld : Result Item Refusal → List ℕ → Type 0
+SpansHeld (Ok (SiteItem fields)) p = Unit
+SpansHeld (Ok (RoofItem shape)) p = SpansThere shape p
+SpansHeld (Ok (LowerItem lower)) p = Unit
+SpansHeld (Err refusal) p = Unit

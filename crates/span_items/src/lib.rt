@@ -3,10 +3,10 @@
 
 ghost use Rattle.std.specs.Prelude.{◌≡◌, ◌<◌, ◌≤◌, MatchResult, length};
 ghost use Rattle.little_endian.specs.Numbers.{byte_at};
-ghost use Rattle.span_items.specs.SpanItems.{multi_span_item, drifted_item, spans_said, SpansThere};
+ghost use Rattle.span_items.specs.SpanItems.{multi_span_item, drifted_item, spans_said, with_spans, SpansThere, SpansHeld};
 
 use figures::{Refusal, Shape, Spans};
-use item_forms::{Item, check_length};
+use item_forms::{Decoded, Item, check_length};
 use span_numbers::{put_drifted, put_slopes, spans_held};
 
 // The count of spans; an item without its byte is refused.
@@ -16,8 +16,8 @@ fn count_at(p: &[u8]) -> Result<u8, Refusal>
     p.get(1).copied().ok_or(Refusal::ItemLength)
 }
 
-// A multi-span roof, kind 4.
-pub fn multi_span_item(p: &[u8]) -> Result<Item, Refusal>
+// A multi-span roof, kind 4, by its shape alone.
+pub fn multi_span_content(p: &[u8]) -> Result<Item, Refusal>
     ensures { result ≡ multi_span_item p.now }
 {
     let count = count_at(p)?;
@@ -28,8 +28,8 @@ pub fn multi_span_item(p: &[u8]) -> Result<Item, Refusal>
     }))
 }
 
-// A multi-span roof with drifts in its valleys, kind 9.
-pub fn drifted_item(p: &[u8]) -> Result<Item, Refusal>
+// A multi-span roof with drifts in its valleys, kind 9, by its shape alone.
+pub fn drifted_content(p: &[u8]) -> Result<Item, Refusal>
     ensures { result ≡ drifted_item p.now }
 {
     let count = count_at(p)?;
@@ -58,4 +58,30 @@ pub fn spans_in(p: &[u8], shape: Shape) -> Spans
         }
     }
     spans
+}
+
+// An item with its spans beside it, which are read from its bytes.
+pub fn with_spans(p: &[u8], item: Result<Item, Refusal>) -> Decoded
+    requires { SpansHeld item p.now }
+    ensures { result ≡ with_spans item p.now }
+{
+    let spans = match item {
+        Ok(Item::RoofItem(shape)) => spans_in(p, shape),
+        _ => Spans::none(),
+    };
+    Decoded { item, spans }
+}
+
+// A multi-span roof, kind 4, with its spans.
+pub fn multi_span_item(p: &[u8]) -> Decoded
+    ensures { result ≡ with_spans (multi_span_item p.now) p.now }
+{
+    with_spans(p, multi_span_content(p))
+}
+
+// A multi-span roof with drifts in its valleys, kind 9, with its spans.
+pub fn drifted_item(p: &[u8]) -> Decoded
+    ensures { result ≡ with_spans (drifted_item p.now) p.now }
+{
+    with_spans(p, drifted_content(p))
 }

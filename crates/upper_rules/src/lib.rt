@@ -12,7 +12,7 @@ ghost use Rattle.upper_rules.specs.UpperRules.{may_stand_above, upper_number, up
 
 use circles::comes_back;
 use figures::Refusal;
-use items::{decode, is_lower};
+use items::{content_of, is_lower};
 use pairs::{Items, Refused, in_turn};
 use stepped_roofs::is_upper;
 use upper_items::{has_lower, upper_index, uppers};
@@ -21,7 +21,7 @@ use upper_items::{has_lower, upper_index, uppers};
 fn may_stand_above(items: Items, i: usize) -> bool
     ensures { result ≡ may_stand_above items.entry.sheet.now items.entry.count i }
 {
-    i < items.count() && is_upper(&decode(items.part(i)))
+    i < items.count() && is_upper(&content_of(items.part(i)))
 }
 
 // A lower roof is refused whose upper item may not stand above it.
