@@ -35,8 +35,9 @@ fn check_pairs(s: &[u8], n: usize) -> Result<usize, Refused>
     let mut earliest = 2 + 4 * n;
     for i in 0..n {
         let pair = pair_at(s, i);
+        let start = pair.start();
         let end = pair.end();
-        if pair.start() < earliest || s.len() < end {
+        if start < earliest || s.len() < end {
             return Err(Refused {
                 refusal: Refusal::Pair,
                 item: i,
