@@ -10,7 +10,9 @@ pub returns-then-start-earliest : goal.returns-then-start-earliest
 returns-then-start-earliest c =
     let e : pair_number c.args.s.now c.loop-i.i ≡ 2 =
     elim c.then-start-earliest.branch [
-      | then-start-earliest-via-then-start-earliest w ↦ pair_early c.args.s.now c.loop-i.i (omega (arith, w.if-start-earliest.true, c.loop-i.invariant.0, c.start-start.ensures, c.pair_at-pair.ensures.0))
+      | then-start-earliest-via-then-start-earliest w ↦
+          pair_early c.args.s.now c.loop-i.i
+          (omega (arith, w.if-start-earliest.true, c.loop-i.invariant.0, c.start-start.ensures, c.pair_at-pair.ensures.0))
       | then-start-earliest-via-else-start-earliest+then-s-end w ↦
           pair_past c.args.s.now c.loop-i.i
           (omega (arith, w.if-start-earliest.false, c.loop-i.invariant.0, c.start-start.ensures, c.pair_at-pair.ensures.0))
